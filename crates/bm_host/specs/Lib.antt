@@ -1,0 +1,5 @@
+pub mod ByRole
+pub mod MemoryHost
+pub mod NamedFiles
+pub mod Outside
+pub mod Tally
