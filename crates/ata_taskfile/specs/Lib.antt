@@ -1,0 +1,4 @@
+pub mod TaskFile
+pub mod Order
+pub mod Device
+pub mod Lawful

@@ -1,0 +1,43 @@
+//! The bits of the registers (ATA/ATAPI-6, Status, Error, Device and Device Control registers).
+
+/// Status: the device is at work, and takes no register but Device Control.
+pub const BSY: u8 = 0x80;
+
+/// Status: the device is ready for a command.
+pub const DRDY: u8 = 0x40;
+
+/// Status: shown beside DRDY, and with no meaning of its own (own: always so).
+pub const DSC: u8 = 0x10;
+
+/// Status: words wait in Data, or are wanted there.
+pub const DRQ: u8 = 0x08;
+
+/// Status: the last command failed, and Error says why.
+pub const ERR: u8 = 0x01;
+
+/// Error: the bytes of a sector can't be had.
+pub const UNC: u8 = 0x40;
+
+/// Error: the sectors aren't all on the device.
+pub const IDNF: u8 = 0x10;
+
+/// Error: the command was given up.
+pub const ABRT: u8 = 0x04;
+
+/// Device Control: the previous byte of a two-byte register is shown.
+pub const HOB: u8 = 0x80;
+
+/// Device Control: the device is held in reset.
+pub const SRST: u8 = 0x04;
+
+/// Device Control: the interrupt line stays low.
+pub const NIEN: u8 = 0x02;
+
+/// Device: an address is a sector's number.
+pub const LBA: u8 = 0x40;
+
+/// Device: the second device is meant, which isn't there.
+pub const DEV: u8 = 0x10;
+
+/// The words of a sector, which is the block that Data moves.
+pub const BLOCK_WORDS: u16 = 256;

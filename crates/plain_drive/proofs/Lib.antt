@@ -1,0 +1,4 @@
+mod Outcomes
+mod Words
+pub mod Steps
+pub mod Stores

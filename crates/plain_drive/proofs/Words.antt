@@ -1,0 +1,48 @@
+-- The words read from Data.
+use Rattle.std.proofs.Common.{◌≡◌, ℕ, ◌-◌, ◌≤◌, ◌<◌, List, ◌∷◌, length, zero, suc, true, drop, get_or, sym, ap, ◌∙◌, arith}
+use Rattle.std.proofs.Math.ListN.{drop_of_length-le}
+use Rattle.std.proofs.Math.Seq.{drop-cons}
+use Rattle.ata_taskfile.specs.declared.Request.{Request}
+use Rattle.ata_taskfile.specs.declared.Taken.TheVariants.{Good}
+use Rattle.ata_taskfile.specs.declared.Phase.{Phase}
+use Rattle.ata_taskfile.specs.declared.Phase.TheVariants.{Ready}
+use Rattle.ata_taskfile.specs.Device.{Device, word_in, phase_after_word, after_read_word, gives_words}
+use Rattle.plain_drive.specs.Words.{words_read}
+
+-- the word that is due
+word_due : (phase : Phase) (block : List ℕ) (order : Request) (done left : ℕ)
+    → phase ≡ Ready (Good order) done left → gives_words order.form ≡ true
+    → word_in phase block ≡ get_or block (256 - left) 0
+word_due phase block order done left e g = grind arith
+
+-- one word less is left, while there are more
+one_less : (phase : Phase) (order : Request) (done n : ℕ)
+    → phase ≡ Ready (Good order) done (suc (suc n)) → gives_words order.form ≡ true
+    → phase_after_word phase ≡ Ready (Good order) done (suc n)
+one_less phase order done n e g = grind arith
+
+-- what is left of a block, by the next word
+next_word : (block : List ℕ) (n : ℕ) → length block ≡ 256 → suc n ≤ 256
+    → drop (256 - suc n) block ≡ get_or block (256 - suc n) 0 ∷ drop (256 - n) block
+next_word block n whole most =
+    let at : 256 - suc n < length block = omega arith in
+    let after : suc (256 - suc n) ≡ 256 - n = omega arith in
+    drop-cons block (256 - suc n) 0 at ∙ ap (λ i. get_or block (256 - suc n) 0 ∷ drop i block) after
+
+-- the words read are what is left of the block
+pub read_words : (n : ℕ) (d : Device) (order : Request) (done : ℕ)
+    → d.file.phase ≡ Ready (Good order) done n → gives_words order.form ≡ true
+    → length d.block ≡ 256 → n ≤ 256 → words_read n d ≡ drop (256 - n) d.block
+unfolding words_read
+read_words zero d order done e g whole most =
+    let all : length d.block ≤ 256 = omega arith in sym (drop_of_length-le d.block all)
+read_words (suc zero) d order done e g whole most =
+    let all : length d.block ≤ 256 = omega arith in
+    let word = word_due d.file.phase d.block order done 1 e g in
+    let left = next_word d.block 0 whole most in
+    let none = drop_of_length-le d.block all in cc
+read_words (suc (suc n)) d order done e g whole most =
+    let less = one_less d.file.phase order done n e g in
+    let rest = read_words (suc n) (after_read_word d) order done less g whole (omega arith) in
+    let word = word_due d.file.phase d.block order done (suc (suc n)) e g in
+    let left = next_word d.block (suc n) whole most in cc

@@ -1,0 +1,5 @@
+pub mod Plain
+pub mod Step
+pub mod Cut
+pub mod Laws
+pub mod Words

@@ -1,0 +1,18 @@
+-- Words read from Data, one after the other.
+use Rattle.std.specs.Prelude.{ℕ, ◌/◌, ◌%◌, zero, suc, List, [], ◌∷◌}
+use Rattle.std.specs.List.{flat_map}
+use Rattle.ata_taskfile.specs.Device.{Device, word_read, after_read_word}
+
+-- what so many reads of Data answer (ATA/ATAPI-6, PIO data-in)
+unfoldable pub words_read : ℕ → Device → List ℕ
+words_read zero d = []
+words_read (suc n) d = word_read d ∷ words_read n (after_read_word d)
+
+-- the device after so many reads of Data
+unfoldable pub after_words : ℕ → Device → Device
+after_words zero d = d
+after_words (suc n) d = after_words n (after_read_word d)
+
+-- words in bytes, the low byte of each first (ATA/ATAPI-6, Data register)
+abbrev pub bytes_of : List ℕ → List ℕ
+bytes_of words = flat_map (λ word. (word % 256) ∷ (word / 256) ∷ []) words
