@@ -1,0 +1,122 @@
+//! Two sectors, read by hand. The values are from the rules of the registers.
+
+ghost use Rattle.std.specs.Prelude.{◌≡◌, IfOk};
+ghost use Rattle.drive_model.specs.Drive.{device_of};
+
+use crate::Drive;
+use ata_taskfile::{Ports, Reg, Step, Stepped};
+use std::alloc::{AllocError, Global};
+use std::test::Fail;
+
+// Sector 0 is all 0; sector 1 begins with 34h 12h and ends with CDh ABh.
+fn two_sectors(alloc: Global) -> Result<Drive, AllocError>
+    ensures { IfOk result (λ d. (device_of d).sectors ≡ 2) }
+{
+    let mut bytes = [0; 1024];
+    bytes[512] = 0x34;
+    bytes[513] = 0x12;
+    bytes[1022] = 0xcd;
+    bytes[1023] = 0xab;
+    Drive::load(alloc, &bytes)
+}
+
+// READ SECTOR(S), of up to 255 sectors.
+fn ask(drive: &mut Drive, first: u8, count: u8) {
+    drive.write8(Reg::Device, 0x40);
+    drive.write8(Reg::Count, count);
+    drive.write8(Reg::Low, first);
+    drive.write8(Reg::Mid, 0);
+    drive.write8(Reg::High, 0);
+    drive.write8(Reg::Status, 0x20);
+}
+
+#[test]
+fn a_sector_is_read_by_words(rt: HostRuntime) -> Result<(), Fail> {
+    let mut drive = two_sectors(rt.alloc())?;
+    assert_eq!(rt; drive.read8(Reg::Status), 0x80);
+    assert_eq!(rt; drive.step(Step::Good), Stepped::Changed);
+    assert_eq!(rt; drive.read8(Reg::Status), 0x50);
+    assert_eq!(rt; drive.step(Step::Good), Stepped::Nothing);
+
+    ask(&mut drive, 1, 1);
+    assert_eq!(rt; drive.read8(Reg::Status), 0x80);
+    assert_eq!(rt; drive.read_word(), 0xffff);
+    assert_eq!(rt; drive.step(Step::Good), Stepped::Changed);
+    assert!(rt; drive.line());
+    assert_eq!(rt; drive.read8(Reg::Status), 0x58);
+    assert!(rt; !drive.line());
+
+    for i in 0..256usize {
+        let want = match i {
+            0 => 0x1234,
+            255 => 0xabcd,
+            _ => 0,
+        };
+        assert_eq!(rt; drive.read_word(), want, "word {i}");
+    }
+    assert_eq!(rt; drive.read8(Reg::Status), 0x50);
+    assert_eq!(rt; drive.read_word(), 0xffff);
+    Ok(())
+}
+
+#[test]
+fn a_bad_step_shows_the_sector(rt: HostRuntime) -> Result<(), Fail> {
+    let mut drive = two_sectors(rt.alloc())?;
+    drive.step(Step::Good);
+    ask(&mut drive, 0, 2);
+    drive.step(Step::Good);
+    for _ in 0..256usize {
+        drive.read_word();
+    }
+    assert_eq!(rt; drive.read8(Reg::Status), 0x80);
+    assert_eq!(rt; drive.step(Step::Bad), Stepped::Changed);
+    assert!(rt; drive.line());
+    let registers = [
+        (Reg::Alternate, 0x51),
+        (Reg::Error, 0x40),
+        (Reg::Count, 2),
+        (Reg::Low, 1),
+        (Reg::Mid, 0),
+        (Reg::High, 0),
+        (Reg::Device, 0x40),
+    ];
+    for (reg, want) in registers {
+        assert_eq!(rt; drive.read8(reg), want, "{reg:?}");
+    }
+    assert_eq!(rt; drive.step(Step::Bad), Stepped::Nothing);
+    Ok(())
+}
+
+#[test]
+fn a_reset_ends_the_command(rt: HostRuntime) -> Result<(), Fail> {
+    let mut drive = two_sectors(rt.alloc())?;
+    drive.step(Step::Good);
+    ask(&mut drive, 0, 1);
+    drive.write8(Reg::Alternate, 0x04);
+    assert_eq!(rt; drive.step(Step::Good), Stepped::Nothing);
+    assert_eq!(rt; drive.step(Step::Bad), Stepped::Nothing);
+    drive.write8(Reg::Alternate, 0);
+    assert_eq!(rt; drive.read8(Reg::Alternate), 0x80);
+    assert_eq!(rt; drive.step(Step::Good), Stepped::Changed);
+    assert!(rt; !drive.line());
+    for (reg, want) in [
+        (Reg::Status, 0x50),
+        (Reg::Error, 1),
+        (Reg::Count, 1),
+        (Reg::Low, 1),
+        (Reg::Device, 0),
+    ] {
+        assert_eq!(rt; drive.read8(reg), want, "{reg:?}");
+    }
+    Ok(())
+}
+
+#[test]
+fn a_durable_value_is_copied(rt: HostRuntime) -> Result<(), Fail> {
+    let mut drive = two_sectors(rt.alloc())?;
+    let mut sector = [0; 512];
+    drive.durable(1, &mut sector);
+    assert_eq!(rt; [sector[0], sector[511]], [0x34, 0xab]);
+    assert!(rt; !drive.file().failed);
+    Ok(())
+}
