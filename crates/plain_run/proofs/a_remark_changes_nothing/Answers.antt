@@ -1,0 +1,17 @@
+use Rattle.std.proofs.Common.{◌≡◌, List, [], ◌∷◌, refl}
+use Rattle.plain_drive.specs.Plain.{Plain}
+use Rattle.schedule_text.specs.declared.Item.{Item}
+use Rattle.schedule_text.specs.declared.Item.TheVariants as item
+use Rattle.plain_run.specs.Entry.{plan_in}
+use Rattle.plain_run.specs.Event.{FollowsPlan}
+use Rattle.plain_run.proofs.a_remark_changes_nothing.Goals as goal
+
+-- without a plan item the plain drive stays
+stays : (items : List Item) (old new : Plain) → plan_in items ≡ [] → FollowsPlan items old new → new ≡ old
+stays [] old new none followed = followed
+stays (item.Answer ∷ items) old new none followed = stays items old new none followed
+stays (item.Go n ∷ items) old new none followed = cc
+stays (item.Command byte first count ∷ items) old new none followed = stays items old new none followed
+
+pub returns : goal.returns
+returns c old new entry is event = stays entry.items old new (event.placed (rw is refl)) (rw is at event.followed)

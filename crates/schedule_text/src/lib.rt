@@ -1,0 +1,70 @@
+//! The text of schedules and reports: lines to events, and what an event gave to lines.
+//!
+//! Start with `Event`, one line of a schedule, and `Item`, one line of a report. `specs/Line.antt` has the grammar
+//! of a schedule's line, `specs/Schedule.antt` that of a whole schedule, and `specs/Report.antt` the text of a
+//! report's lines. `docs/formats.md` has the same as tables.
+
+#![tactic(auto)]
+
+mod emitted;
+mod read;
+mod write;
+
+use ata_taskfile::{Reg, Step};
+pub use emitted::Emitted;
+pub use read::{line_says_one_event, read_line};
+pub use write::{write_end, write_item};
+
+/// The bytes that a schedule's line may have, without its end.
+pub const LINE_BYTES: usize = 4096;
+
+/// What one line of a schedule says.
+#[derive(Clone, Copy, Debug, PartialEq, Eq)]
+pub enum Event {
+    /// The guest reads a register.
+    Read8(Reg),
+    /// The guest writes a register.
+    Write8(Reg, u8),
+    /// The guest reads so many words from Data, one after the other: 1 to 256.
+    ReadWords(u32),
+    /// The guest looks at the interrupt line.
+    Line,
+    /// The drive makes a step.
+    Drive(Step),
+    /// An empty line or a note: no event.
+    Remark,
+    /// The schedule ends here.
+    End,
+}
+
+/// Why a line isn't one of a schedule, the first that holds.
+#[derive(Clone, Copy, Debug, PartialEq, Eq)]
+pub enum LineFault {
+    /// No line has this shape.
+    Form,
+    /// The shape is a line's, and its number is out of range.
+    Number,
+    /// The line is longer than `LINE_BYTES`.
+    LongLine,
+    /// The schedule ended before the line `end`.
+    NoEnd,
+    /// The schedule has more lines than a line number can tell.
+    TooMany,
+    /// Something follows the line `end`.
+    Trailing,
+}
+
+/// One line of a report: what an event gave.
+#[derive(Clone, Copy, Debug, Default, PartialEq, Eq)]
+pub enum Item {
+    /// The bytes that a guest's read answered.
+    #[default]
+    Answer,
+    /// The plain drive made so many Good steps.
+    Go(u32),
+    /// The drive took a command: its byte, its first sector and its count, both 0 without a range or refused.
+    Command(u8, u64, u32),
+}
+
+#[cfg(test)]
+mod tests;

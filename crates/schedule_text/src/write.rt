@@ -1,0 +1,104 @@
+//! The lines of a report, as bytes.
+
+ghost use Rattle.std.specs.Prelude.{◌≡◌, ◌≤◌, ◌+◌, ◌*◌, ◌++◌, ◌∷◌, [], length, decimal};
+ghost use Rattle.schedule_text.specs.Line.{hex_digit, hex_byte};
+ghost use Rattle.schedule_text.specs.Report.{hex_text, item_text, line_text, end_text};
+
+use crate::Item;
+use arrayvec::ArrayVec;
+use itoa::Buffer;
+
+/// Puts one line of a report in place of what `into` holds, its line feed included. `number` is the number of the
+/// event's line, and `bytes` the answer of the event, which only `Item::Answer` tells.
+pub fn write_item(number: u32, item: &Item, bytes: &[u8], into: &mut ArrayVec<u8, 4096>)
+    requires { length bytes.now ≤ 2000 }
+    ensures line { into.new.items ≡ line_text number item.now bytes.now }
+{
+    into.clear();
+    push_decimal(number.into(), into);
+    into.push(b' ');
+    push_item(item, bytes, into);
+    into.push(b'\n');
+}
+
+/// Puts the last line of a report in place of what `into` holds, its line feed included. `number` is the number of
+/// the schedule's line `end`.
+pub fn write_end(number: u32, into: &mut ArrayVec<u8, 4096>)
+    ensures line { into.new.items ≡ end_text number }
+{
+    into.clear();
+    push_text(b"end ", into);
+    push_decimal(number.into(), into);
+    into.push(b'\n');
+}
+
+// A line's number and a space are 21 bytes at most. 4,023 are these, `o ` and 2,000 bytes in hexadecimal.
+fn push_item(item: &Item, bytes: &[u8], into: &mut ArrayVec<u8, 4096>)
+    requires short { length bytes.now ≤ 2000 }
+    requires room { length into.old.items ≤ 21 }
+    ensures text { into.new.items ≡ into.old.items ++ item_text item.now bytes.now }
+    ensures len { length into.new.items ≤ 4023 }
+{
+    match *item {
+        Item::Answer => {
+            push_text(b"o ", into);
+            push_hex(bytes, into);
+        }
+        Item::Go(count) => {
+            push_text(b"p go ", into);
+            push_decimal(count.into(), into);
+        }
+        Item::Command(byte, first, count) => {
+            push_text(b"c ", into);
+            push_hex_byte(byte, into);
+            into.push(b' ');
+            push_decimal(first, into);
+            into.push(b' ');
+            push_decimal(count.into(), into);
+        }
+    }
+}
+
+fn push_text(text: &[u8], into: &mut ArrayVec<u8, 4096>)
+    requires { length into.old.items + length text.now ≤ 4096 }
+    ensures text { into.new.items ≡ into.old.items ++ text.now }
+{
+    into.try_extend_from_slice(text).unwrap();
+}
+
+fn push_decimal(number: u64, into: &mut ArrayVec<u8, 4096>)
+    requires { length into.old.items + 20 ≤ 4096 }
+    ensures text { into.new.items ≡ into.old.items ++ decimal number }
+    ensures len { length into.new.items ≤ length into.old.items + 20 }
+{
+    push_text(Buffer::new().format(number).as_bytes(), into);
+}
+
+fn push_hex(bytes: &[u8], into: &mut ArrayVec<u8, 4096>)
+    requires { length into.old.items + 2 * length bytes.now ≤ 4096 }
+    ensures text { into.new.items ≡ into.old.items ++ hex_text bytes.now }
+    ensures len { length into.new.items ≡ length into.old.items + 2 * length bytes.now }
+{
+    for &byte in bytes {
+        push_hex_byte(byte, into);
+    }
+}
+
+fn push_hex_byte(byte: u8, into: &mut ArrayVec<u8, 4096>)
+    requires { length into.old.items + 2 ≤ 4096 }
+    ensures text { into.new.items ≡ into.old.items ++ hex_byte byte }
+{
+    into.push(hex_of(byte / 16));
+    into.push(hex_of(byte % 16));
+}
+
+fn hex_of(digit: u8) -> u8
+    requires { digit ≤ 15 }
+    ensures digit { result ≡ hex_digit digit }
+{
+    if digit < 10 {
+        b'0' + digit
+    } else {
+        b'a' + (digit - 10)
+    }
+}
