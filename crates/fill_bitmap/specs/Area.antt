@@ -1,0 +1,34 @@
+-- An image on a disk: its blocks, its reserved sectors, and when it is suitable.
+use Rattle.std.specs.Prelude.{ℕ, ◌≡◌, ◌≤◌, ◌+◌, ◌-◌, ◌/◌, ◌%◌, ◌⊎◌, ◌==◌, if◌then◌else◌}
+use Rattle.std.specs.Int.{div_ceil}
+use Rattle.fill_bitmap.specs.declared.area.Area.{Area}
+use Rattle.fill_bitmap.specs.declared.area.TheConstants.{BLOCKS_OF_SECTOR, MOST_SECTORS}
+
+-- a block has 8, 16, 32 or 64 sectors (own)
+abbrev pub IsBlock : ℕ → Type 0
+IsBlock block = (block ≡ 8) ⊎ (block ≡ 16) ⊎ (block ≡ 32) ⊎ (block ≡ 64)
+
+-- the blocks of the image (own)
+abbrev pub blocks_of : Area → ℕ
+blocks_of area = area.image / area.block
+
+-- the sectors of the bitmap, which has a bit for each block: rounded up (own)
+abbrev pub bitmap_sectors_of : Area → ℕ
+bitmap_sectors_of area = div_ceil (blocks_of area) BLOCKS_OF_SECTOR
+
+-- the first reserved sector: behind it lie bitmap and dummy sector; an empty image reserves none (own)
+abbrev pub reserved_of : Area → ℕ
+reserved_of area =
+    if area.image == 0 then area.sectors else area.sectors - (bitmap_sectors_of area + 2)
+
+-- the fewest sectors of a disk: one, or the image's with header, bitmap and dummy sector (own)
+abbrev pub sectors_needed : Area → ℕ
+sectors_needed area =
+    if area.image == 0 then 1 else area.image + bitmap_sectors_of area + 2
+
+-- whole blocks, and a disk that is neither too small nor too large (own)
+pub record IsSuitable (area : Area) : Type 0 where
+  pub blocked : IsBlock area.block
+  pub whole : area.image % area.block ≡ 0
+  pub large_enough : sectors_needed area ≤ area.sectors
+  pub small_enough : area.sectors ≤ MOST_SECTORS

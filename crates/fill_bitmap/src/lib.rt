@@ -1,0 +1,15 @@
+//! The area of an image on a disk: its blocks, the sectors that the monitor reserves behind it, and which lengths
+//! of image and disk are suitable for both.
+//!
+//! Start with `Area`, then `area_of`, which makes one of two lengths in bytes. `specs/Area.antt` says what each
+//! size is and which areas are suitable, `specs/Lengths.antt` why lengths are refused.
+
+#![tactic(auto)]
+
+mod area;
+mod lengths;
+#[cfg(test)]
+mod tests;
+
+pub use area::{Area, BLOCKS_OF_SECTOR, MOST_SECTORS};
+pub use lengths::{SECTOR_BYTES, Unsuitable, area_of};

@@ -1,0 +1,4 @@
+pub mod Decimals
+pub mod Splits
+pub mod Refusals
+pub mod Once
