@@ -1,0 +1,13 @@
+pub mod Blocks
+pub mod Reading
+pub mod EventLaws
+pub mod Reporting
+pub mod Lines
+pub mod Told
+pub mod StopLaws
+pub mod PlayedLaws
+pub mod DiskLaws
+pub mod RunLaws
+pub mod ConsoleLaws
+pub mod BadLines
+pub mod Reasons

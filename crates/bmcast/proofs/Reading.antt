@@ -1,0 +1,36 @@
+-- A line of the schedule that is taken byte by byte.
+use Rattle.std.proofs.Common.{◌≡◌, ◌≢◌, ◌++◌, ℕ, List, [], ◌∷◌, Some, append_assoc, ◌∙◌, ap, sym, subst}
+use Rattle.bm_host.specs.Outside.{Outside, IfTold, SameCounts}
+use Rattle.bm_host.proofs.OutsideLaws.{same_counts_trans}
+use Rattle.bm_host.specs.declared.Role.TheVariants.{Schedule}
+use Rattle.schedule_text.specs.Schedule.{IsOneLine}
+use Rattle.bmcast.specs.declared.streams.Streams.{Streams}
+use Rattle.bmcast.proofs.Told.{IfTold-both}
+use Rattle.bmcast.specs.Streams.{unread, Said, Takes, KeepsFiles}
+
+-- these bytes were taken, the front of a line, and nothing else happened
+pub record TakesFront (from to : Streams) (old new : Outside) (front : List ℕ) : Type 0 where
+  pub counts : SameCounts old new
+  pub files : KeepsFiles old new
+  pub said : (text : List ℕ) → Said from old text → Said to new text
+  pub bytes : IfTold (old.told Schedule) (λ text. unread from old text ≡ front ++ unread to new text)
+  pub one : IsOneLine front
+
+-- a byte more that isn't a line feed
+IsOneLine-push : (line : List ℕ) (byte : ℕ) → IsOneLine line → byte ≢ 10 → IsOneLine (line ++ byte ∷ [])
+IsOneLine-push [] byte one differs = (differs, tt)
+IsOneLine-push (c ∷ line) byte one differs = (one.0, IsOneLine-push line byte one.1 differs)
+
+-- one byte more was taken
+pub TakesFront-push : (from mid to : Streams) (old now new : Outside) (front : List ℕ) (byte : ℕ)
+    → TakesFront from mid old now front → SameCounts now new → KeepsFiles now new
+    → ((text : List ℕ) → Said mid now text → Said to new text)
+    → IfTold (now.told Schedule) (λ text. Takes (Some byte) (unread mid now text) (unread to new text))
+    → byte ≢ 10 → TakesFront from to old new (front ++ byte ∷ [])
+TakesFront-push from mid to old now new front byte so counts files said taken differs = record {
+  counts = same_counts_trans old now new so.counts counts;
+  files = λ role other. files role other ∙ so.files role other;
+  said = λ text was. said text (so.said text was);
+  bytes = IfTold-both (old.told Schedule) _ _ _ (λ text was one. was ∙ ap (λ rest. front ++ rest) one ∙ sym (append_assoc front (byte ∷ []) (unread to new text))) so.bytes (subst (λ o. IfTold o (λ text. Takes (Some byte) (unread mid now text) (unread to new text))) (so.files Schedule (λ e. cc)) taken);
+  one = IsOneLine-push front byte so.one differs;
+}

@@ -1,0 +1,16 @@
+use Rattle.bmcast.proofs.StopLaws.{caused, told_since, unless_done, bad_line_status}
+use Rattle.bmcast.proofs.RunLaws.{bad_line_told}
+use Rattle.bmcast.specs.StatusLine.{status_line}
+use Rattle.bmcast.proofs.bmcast.Goals as goal
+
+pub returns-in-Err-clause-cause : goal.returns-in-Err-clause-cause
+returns-in-Err-clause-cause g c = rw c.report_stop.ensures.status (caused _ _ _ c.in-Err.stop c.in-Err.ensures.counts c.report_stop.ensures.counts)
+
+pub returns-in-Err-clause-told : goal.returns-in-Err-clause-told
+returns-in-Err-clause-told g c = unless_done c.report_stop.result (told_since (status_line c.report_stop.result) (g.H.Host.outside c.args.host.now) (g.H.Host.outside c.run.new.host) (g.H.Host.outside c.report_stop.new.host) c.in-Err.stop c.in-Err.ensures.counts c.in-Err.ensures.console c.report_stop.ensures.told)
+
+pub returns-in-Err-clause-bad_line : goal.returns-in-Err-clause-bad_line
+returns-in-Err-clause-bad_line g c = rw c.report_stop.ensures.status (bad_line_status (Unit {0}) c.in-Err.stop _ _ (λ number kind. bad_line_told _ _ _ number kind c.report_stop.ensures.files) c.in-Err.ensures.bad)
+
+pub returns-in-Err-clause-reason : goal.returns-in-Err-clause-reason
+returns-in-Err-clause-reason g c = rw c.report_stop.ensures.status c.in-Err.ensures.reason

@@ -1,0 +1,126 @@
+-- What each status of a run owes.
+use Rattle.std.specs.Prelude.{ℕ, ◌≡◌, ◌≢◌, ◌≤◌, ◌++◌, ◌⊎◌, List, Result, Ok, Err}
+use Rattle.run_words.specs.Options.{Choice, Says}
+use Rattle.schedule_text.specs.declared.LineFault.{LineFault}
+use Rattle.bmcast.specs.Lengths.{IfLengths, CanRun, IsNotYet, IsUnsuitable}
+use Rattle.bm_host.specs.declared.Role.{Role}
+use Rattle.bm_host.specs.declared.Role.TheVariants.{Console}
+use Rattle.bm_host.specs.Outside.{Outside, Rose, SameCounts, Becomes, AppendsPrefix}
+use Rattle.bmcast.specs.declared.Status.{Status}
+use Rattle.bmcast.specs.declared.Status.TheVariants as status
+use Rattle.bmcast.specs.declared.stop.Stop.{Stop}
+use Rattle.bmcast.specs.declared.stop.Stop.TheVariants as stop
+
+-- no count of faults changed but that of Console's writes, which didn't fall
+pub record OnlyConsole (old new : Outside) : Type 0 where
+  pub reads : (role : Role) → new.read_faults role ≡ old.read_faults role
+  pub writes : (role : Role) → role ≢ Console → new.write_faults role ≡ old.write_faults role
+  pub console : old.write_faults Console ≤ new.write_faults Console
+
+-- this text was appended to Console; or a prefix of it, and the count of Console's writes rose
+abbrev pub IsTold : List ℕ → Outside → Outside → Type 0
+IsTold text old new = Becomes (λ before after. after ≡ before ++ text) (old.told Console) (new.told Console)
+    ⊎ (Rose (old.write_faults Console) (new.write_faults Console) × Becomes (AppendsPrefix text) (old.told Console) (new.told Console))
+
+-- a read of this role failed: its count rose, and no other changed but that of Console's writes
+pub record ReadFailed (failed : Role) (old new : Outside) : Type 0 where
+  pub rose : Rose (old.read_faults failed) (new.read_faults failed)
+  pub reads : (role : Role) → role ≢ failed → new.read_faults role ≡ old.read_faults role
+  pub writes : (role : Role) → role ≢ Console → new.write_faults role ≡ old.write_faults role
+
+-- a write of this role failed: its count rose, and no other changed but that of Console's writes
+pub record WriteFailed (failed : Role) (old new : Outside) : Type 0 where
+  pub rose : Rose (old.write_faults failed) (new.write_faults failed)
+  pub reads : (role : Role) → new.read_faults role ≡ old.read_faults role
+  pub writes : (role : Role) → role ≢ failed → role ≢ Console → new.write_faults role ≡ old.write_faults role
+
+-- what a status says of the counts of faults
+abbrev pub HasItsCause : Status → Outside → Outside → Type 0
+HasItsCause status.Done old new = SameCounts old new
+HasItsCause (status.ReadFault role) old new = ReadFailed role old new
+HasItsCause (status.WriteFault role) old new = WriteFailed role old new
+HasItsCause status.Usage old new = OnlyConsole old new
+HasItsCause (status.Unsuitable why) old new = OnlyConsole old new
+HasItsCause (status.BadLine number fault) old new = OnlyConsole old new
+HasItsCause status.NoMemory old new = OnlyConsole old new
+HasItsCause status.NotYet old new = OnlyConsole old new
+
+-- a fact for Done
+abbrev pub OnDone : Status → Type 0 → Type 0
+OnDone status.Done P = P
+OnDone (status.ReadFault role) P = Unit {0}
+OnDone (status.WriteFault role) P = Unit {0}
+OnDone status.Usage P = Unit {0}
+OnDone (status.Unsuitable why) P = Unit {0}
+OnDone (status.BadLine number fault) P = Unit {0}
+OnDone status.NoMemory P = Unit {0}
+OnDone status.NotYet P = Unit {0}
+
+-- the status of a run that stopped
+abbrev pub status_of : Stop → Status
+status_of stop.Usage = status.Usage
+status_of (stop.Unsuitable why) = status.Unsuitable why
+status_of (stop.BadLine number fault) = status.BadLine number fault
+status_of (stop.ReadFault role) = status.ReadFault role
+status_of (stop.WriteFault role) = status.WriteFault role
+status_of stop.NoMemory = status.NoMemory
+status_of stop.NotYet = status.NotYet
+
+-- the number that a program ends with (own)
+abbrev pub exit_code : Status → ℕ
+exit_code status.Done = 0
+exit_code status.Usage = 1
+exit_code (status.Unsuitable why) = 2
+exit_code (status.BadLine number fault) = 3
+exit_code (status.ReadFault role) = 4
+exit_code (status.WriteFault role) = 5
+exit_code status.NoMemory = 6
+exit_code status.NotYet = 7
+
+-- the status after a run
+abbrev pub status_after : {T : Type 0} → Result T Stop → Status
+status_after (Ok x) = status.Done
+status_after (Err why) = status_of why
+
+-- the words choose a run, and its block with the lengths of image and disk are so
+pub record Chooses (words : List (List ℕ)) (o : Outside) (P : ℕ → ℕ → ℕ → Type 0) : Type 0 where
+  pub choice : Choice
+  pub says : Says words choice
+  pub lengths : IfLengths o (P choice.sizes.block)
+
+-- why a status comes, of the words and of the lengths, in the order in which these are looked at
+abbrev pub HasItsReason : Status → List (List ℕ) → Outside → Type 0
+HasItsReason status.Usage words o = (choice : Choice) → ¬ Says words choice
+HasItsReason (status.Unsuitable reason) words o = Chooses words o (IsUnsuitable reason)
+HasItsReason status.NotYet words o = Chooses words o IsNotYet
+HasItsReason status.Done words o = Chooses words o CanRun
+HasItsReason (status.BadLine number fault) words o = Chooses words o CanRun
+HasItsReason (status.WriteFault role) words o = Chooses words o CanRun
+HasItsReason status.NoMemory words o = Chooses words o CanRun
+HasItsReason (status.ReadFault role) words o = Chooses words o (λ block image disk. Unit {0})
+
+-- Console holds what it held
+abbrev pub SameConsole : Outside → Outside → Type 0
+SameConsole old new = new.told Console ≡ old.told Console
+
+-- a fact for every status but Done
+abbrev pub UnlessDone : Status → Type 0 → Type 0
+UnlessDone status.Done P = Unit {0}
+UnlessDone (status.ReadFault role) P = P
+UnlessDone (status.WriteFault role) P = P
+UnlessDone status.Usage P = P
+UnlessDone (status.Unsuitable why) P = P
+UnlessDone (status.BadLine number fault) P = P
+UnlessDone status.NoMemory P = P
+UnlessDone status.NotYet P = P
+
+-- a fact for a bad line
+abbrev pub OnBadLineStatus : Status → (ℕ → LineFault → Type 0) → Type 0
+OnBadLineStatus (status.BadLine number fault) P = P number fault
+OnBadLineStatus status.Done P = Unit {0}
+OnBadLineStatus (status.ReadFault role) P = Unit {0}
+OnBadLineStatus (status.WriteFault role) P = Unit {0}
+OnBadLineStatus status.Usage P = Unit {0}
+OnBadLineStatus (status.Unsuitable why) P = Unit {0}
+OnBadLineStatus status.NoMemory P = Unit {0}
+OnBadLineStatus status.NotYet P = Unit {0}

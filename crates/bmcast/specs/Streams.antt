@@ -1,0 +1,51 @@
+-- The schedule as it is read in blocks, and the report as it is written in blocks.
+use Rattle.std.specs.Prelude.{ℕ, ◌≡◌, ◌≢◌, ◌≤◌, ◌++◌, List, [], ◌∷◌, length, take, drop, Option, Some, None}
+use Rattle.bm_host.specs.declared.Role.TheVariants.{Schedule, Report, Out}
+use Rattle.bm_host.specs.declared.Role.{Role}
+use Rattle.bm_host.specs.Outside.{Outside, IfTold}
+use Rattle.schedule_text.specs.declared.TheConstants.{LINE_BYTES}
+use Rattle.schedule_text.specs.Schedule.{IsOneLine}
+use Rattle.bmcast.specs.declared.streams.Streams.{Streams}
+use Rattle.bmcast.specs.declared.streams.Fetched.{Fetched}
+use Rattle.bmcast.specs.declared.streams.Fetched.TheVariants as fetched
+
+-- the bytes of a schedule's text that aren't taken yet: those of the block, and those that the host still has
+abbrev pub unread : Streams → Outside → List ℕ → List ℕ
+unread s outside text = drop s.at (take s.end s.block) ++ drop (outside.given Schedule) text
+
+-- the report's lines so far, written or waiting, are this text
+abbrev pub Said : Streams → Outside → List ℕ → Type 0
+Said s outside text = IfTold (outside.told Report) (λ written. written ++ s.pending.items ≡ text)
+
+-- no role but this one holds anything else
+abbrev pub KeepsFilesBut : Role → Outside → Outside → Type 0
+KeepsFilesBut written old new = (role : Role) → role ≢ written → new.told role ≡ old.told role
+
+-- no role but Report holds anything else
+abbrev pub KeepsFiles : Outside → Outside → Type 0
+KeepsFiles old new = KeepsFilesBut Report old new
+
+-- what Out holds and the bytes that wait for it are this text
+abbrev pub Waits : List ℕ → Outside → List ℕ → Type 0
+Waits waiting outside text = IfTold (outside.told Out) (λ written. written ++ waiting ≡ text)
+
+-- the next byte was taken, where there is one
+abbrev pub Takes : Option ℕ → List ℕ → List ℕ → Type 0
+Takes None old new = (old ≡ []) × (new ≡ [])
+Takes (Some byte) old new = old ≡ byte ∷ new
+
+-- a line was taken: what stood there, up to its line feed (10) or the end
+abbrev pub Fetches : Fetched → List ℕ → List ℕ → List ℕ → Type 0
+Fetches fetched.Line line old new = IsOneLine line × (old ≡ line ++ 10 ∷ new)
+Fetches fetched.LastLine line old new = IsOneLine line × (line ≢ []) × (old ≡ line) × (new ≡ [])
+Fetches fetched.Nothing line old new = (old ≡ []) × (new ≡ [])
+Fetches fetched.TooLong line old new = IsOneLine line × (LINE_BYTES ≤ length line) × ((byte : ℕ) × (byte ≢ 10) × (old ≡ line ++ byte ∷ new))
+
+-- what the end of the schedule makes of the bytes before it
+abbrev pub fetched_at_end : List ℕ → Fetched
+fetched_at_end [] = fetched.Nothing
+fetched_at_end (byte ∷ line) = fetched.LastLine
+
+-- no role holds anything else
+abbrev pub KeepsAllFiles : Outside → Outside → Type 0
+KeepsAllFiles old new = (role : Role) → new.told role ≡ old.told role

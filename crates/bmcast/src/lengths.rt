@@ -1,0 +1,91 @@
+//! The lengths of image and disk, and whether a run can stand on them.
+
+ghost use Rattle.std.specs.Prelude.{◌≡◌, ◌%◌, ◌/◌, ◌≤◌, ◌<◌, length, IfOk, IfErr, OnOk};
+ghost use Rattle.bm_host.specs.Outside.{Outside, Counted, IfTold, Reads};
+ghost use Rattle.fill_bitmap.specs.Area.{IsBlock};
+ghost use Rattle.bm_host.specs.declared.Role.TheVariants.{Image, Disk};
+ghost use Rattle.bmcast.specs.Lengths.{CanRun, IfLengths, StopsFor, why_of};
+ghost use Rattle.bmcast.specs.Status.{SameConsole};
+ghost use Rattle.bmcast.specs.Stop.{Ended, IsEarly};
+ghost use Rattle.bmcast.specs.Streams.{KeepsAllFiles};
+
+use crate::Why;
+use crate::stop::Stop;
+use bm_host::{Failed, Host, Role};
+use fill_bitmap::{Unsuitable, area_of};
+use run_words::Options;
+
+/// Begins image and disk, and answers how many bytes the disk has.
+pub fn measure<H: Host>(host: &mut H, options: &Options<'_>) -> Result<u64, Stop>
+    requires { IsBlock options.now.block }
+    ensures counts { Ended result (H.outside host.old) (H.outside host.new) }
+    ensures files { OnOk result (KeepsAllFiles (H.outside host.old) (H.outside host.new)) }
+    ensures console { SameConsole (H.outside host.old) (H.outside host.new) }
+    ensures disk { IfOk result (λ n. IfTold ((H.outside host.old).told Disk) (λ bytes. length bytes ≡ n)) }
+    ensures whole { IfOk result (λ n. n % 512 ≡ 0) }
+    ensures early { IfErr result IsEarly }
+    ensures suitable { OnOk result (IfLengths (H.outside host.old) (CanRun options.now.block)) }
+    ensures refused { IfErr result (λ stop.
+        IfLengths (H.outside host.old) (StopsFor stop options.now.block)) }
+{
+    let Ok(image) = image_length(host, options.image) else {
+        return Err(Stop::ReadFault(Role::Image));
+    };
+    let Ok(disk) = disk_length(host, options.disk) else {
+        return Err(Stop::ReadFault(Role::Disk));
+    };
+    match check(image, disk, options.block) {
+        Ok(()) => Ok(disk),
+        Err(stop) => Err(stop),
+    }
+}
+
+// An image and a disk of so many bytes are suitable, and the image is empty.
+fn check(image: u64, disk: u64, block: u64) -> Result<(), Stop>
+    requires { IsBlock block }
+    ensures early { IfErr result IsEarly }
+    ensures suitable { OnOk result (CanRun block image disk) }
+    ensures refused { IfErr result (λ stop. StopsFor stop block image disk) }
+    ensures counts { (o : Outside) → Ended result o o }
+    ensures whole { OnOk result (disk % 512 ≡ 0) }
+{
+    match area_of(image, disk, block as u32) {
+        Err(why) => Err(Stop::Unsuitable(why_of(why))),
+        Ok(_) if image > 0 => Err(Stop::NotYet),
+        Ok(_) => Ok(()),
+    }
+}
+
+// The reason as a status tells it.
+fn why_of(why: Unsuitable) -> Why
+    ensures { result ≡ why_of why }
+{
+    match why {
+        Unsuitable::ImageLength => Why::ImageLength,
+        Unsuitable::DiskLength => Why::DiskLength,
+        Unsuitable::TooSmall => Why::TooSmall,
+        Unsuitable::TooLarge => Why::TooLarge,
+    }
+}
+
+#[tactic(auto, using(crate::proofs::Told::begun_image))]
+fn image_length<H: Host>(host: &mut H, name: &str) -> Result<u64, Failed>
+    ensures counts { Counted Reads Image (H.outside host.old) (H.outside host.new) result }
+    ensures files { OnOk result (KeepsAllFiles (H.outside host.old) (H.outside host.new)) }
+    ensures console { SameConsole (H.outside host.old) (H.outside host.new) }
+    ensures length { IfOk result (λ n. IfTold ((H.outside host.old).told Image) (λ bytes. length bytes ≡ n)) }
+{
+    host.begin(Role::Image, name)?;
+    host.length(Role::Image)
+}
+
+#[tactic(auto, using(crate::proofs::Told::begun_disk))]
+fn disk_length<H: Host>(host: &mut H, name: &str) -> Result<u64, Failed>
+    ensures counts { Counted Reads Disk (H.outside host.old) (H.outside host.new) result }
+    ensures files { OnOk result (KeepsAllFiles (H.outside host.old) (H.outside host.new)) }
+    ensures console { SameConsole (H.outside host.old) (H.outside host.new) }
+    ensures length { IfOk result (λ n. IfTold ((H.outside host.old).told Disk) (λ bytes. length bytes ≡ n)) }
+{
+    host.begin(Role::Disk, name)?;
+    host.length(Role::Disk)
+}

@@ -1,0 +1,125 @@
+//! The program `bmcast`: a run over an image, a disk and a schedule of events, by its words.
+//!
+//! Start with `bmcast`, the call that the program makes, and `run`, its steps in order. `specs/Run.antt` says what
+//! is promised of a run that is done or ends at a bad line, `specs/Status.antt` what each status owes, and
+//! `specs/Streams.antt` and `specs/Played.antt` what the reading of a schedule and the writing of a report keep.
+//! `docs/proofs.md` says the same in words.
+
+#![tactic(auto)]
+
+mod console;
+mod disk;
+mod events;
+mod lengths;
+mod play;
+mod run;
+mod stop;
+mod streams;
+
+ghost use Rattle.bmcast.specs.Run.{IsBadLine, IsDone};
+ghost use Rattle.std.specs.Prelude.{◌≡◌};
+ghost use Rattle.run_words.specs.Pairs.{texts};
+ghost use Rattle.bmcast.specs.Status.{HasItsReason, OnBadLineStatus, UnlessDone};
+ghost use Rattle.bmcast.specs.Status.{HasItsCause, OnDone, OnlyConsole, IsTold, exit_code, status_of};
+ghost use Rattle.bm_host.specs.declared.Role.TheVariants.{Console};
+ghost use Rattle.bmcast.specs.StatusLine.{status_line};
+ghost use Rattle.bmcast.specs.Streams.{KeepsFilesBut};
+
+use crate::console::tell;
+use crate::run::run;
+use crate::stop::Stop;
+use bm_host::{Host, Role};
+use schedule_text::LineFault;
+use std::alloc::Global;
+
+/// How a run ended.
+#[derive(Clone, Copy, Debug, PartialEq, Eq)]
+pub enum Status {
+    /// The schedule was read to its end.
+    Done,
+    /// The words are not a command line of this program.
+    Usage,
+    /// Image and disk don't fit each other or the options.
+    Unsuitable(Why),
+    /// A line of the schedule, by its number, isn't one.
+    BadLine(u32, LineFault),
+    /// A file could not be read.
+    ReadFault(Role),
+    /// A file could not be written.
+    WriteFault(Role),
+    /// There was not enough memory to begin.
+    NoMemory,
+    /// The image isn't empty; that is built later.
+    NotYet,
+}
+
+impl Status {
+    /// The number that a program ends with.
+    pub fn exit_code(self) -> u8
+        ensures { result ≡ exit_code self }
+    {
+        match self {
+            Status::Done => 0,
+            Status::Usage => 1,
+            Status::Unsuitable(_) => 2,
+            Status::BadLine(..) => 3,
+            Status::ReadFault(_) => 4,
+            Status::WriteFault(_) => 5,
+            Status::NoMemory => 6,
+            Status::NotYet => 7,
+        }
+    }
+}
+
+/// Does what the words after the program's name say, over the files of `host`. Where the status isn't Done, one
+/// line on Console says it.
+///
+/// At Done the schedule was read to its end, the report is that of a plain drive that began with the disk, and out
+/// holds what a power cut would leave. The first refusal is the answer: the words (Usage), the files (ReadFault), the
+/// lengths (Unsuitable), an image that isn't empty (NotYet), the schedule's first line that isn't one (BadLine). A
+/// fault comes only where that role's count of faults rose.
+pub fn bmcast<H: Host>(alloc: Global, words: &[String], host: &mut H) -> Status
+    ensures done { OnDone result (IsDone (H.outside host.old) (H.outside host.new)) }
+    ensures bad_line { OnBadLineStatus result (IsBadLine (H.outside host.old) (H.outside host.new)) }
+
+    // Of words and lengths each status has its reason, and no other status has it.
+    ensures reason { HasItsReason result (texts words.now) (H.outside host.old) }
+
+    ensures told { UnlessDone result
+        (IsTold (status_line result) (H.outside host.old) (H.outside host.new)) }
+    ensures cause { HasItsCause result (H.outside host.old) (H.outside host.new) }
+{
+    match run(alloc, words, host) {
+        Ok(()) => Status::Done,
+        Err(stop) => report_stop(host, stop),
+    }
+}
+
+// Tells why the run stopped; whether that can be told changes nothing.
+fn report_stop<H: Host>(host: &mut H, stop: Stop) -> Status
+    ensures status { result ≡ status_of stop }
+    ensures counts { OnlyConsole (H.outside host.old) (H.outside host.new) }
+    ensures told { IsTold (status_line result) (H.outside host.old) (H.outside host.new) }
+    ensures files { KeepsFilesBut Console (H.outside host.old) (H.outside host.new) }
+{
+    let status = stop.status();
+    tell(host, status);
+    status
+}
+
+/// Why image and disk are unsuitable, the first that holds.
+#[derive(Clone, Copy, Debug, PartialEq, Eq)]
+pub enum Why {
+    /// The image isn't a whole number of blocks.
+    ImageLength,
+    /// The disk isn't a whole number of sectors.
+    DiskLength,
+    /// The disk has no room for the image and the monitor's own sectors, or no sector at all.
+    TooSmall,
+    /// The disk has more than 262,144 sectors.
+    TooLarge,
+    /// The disk already has this run's header.
+    AlreadyBegun,
+    /// The disk doesn't have this run's header.
+    NotBegun,
+}

@@ -1,0 +1,131 @@
+//! A whole run, step by step: words, lengths, files, disk, events, report and out.
+
+ghost use Rattle.std.specs.Prelude.{◌≡◌, ◌/◌, ◌*◌, ◌%◌, ℕ, List, [], length, IfErr, OnOk, IfOk};
+ghost use Rattle.bm_host.specs.Outside.{IfTold};
+ghost use Rattle.bm_host.specs.declared.Role.TheVariants.{Disk, Out};
+ghost use Rattle.plain_drive.specs.Plain.{plain, Plain};
+ghost use Rattle.drive_model.specs.Drive.{device_of};
+ghost use Rattle.run_words.specs.Pairs.{texts};
+ghost use Rattle.bmcast.specs.Stop.{Ended, IsFault, IsLate, OnBadLine};
+ghost use Rattle.bmcast.specs.BadLine.{HasFailed};
+ghost use Rattle.bmcast.specs.Status.{HasItsReason, SameConsole, status_after};
+ghost use Rattle.bmcast.specs.Streams.{KeepsFiles};
+ghost use Rattle.bmcast.specs.Played.{HasPlayed, HasEnded};
+ghost use Rattle.bmcast.specs.Run.{IsBegun, IsReady, IsReported, IsStopped, IsDone, IsBadLine};
+
+use crate::disk::{load, write_out};
+use crate::lengths::measure;
+use crate::play::play;
+use crate::stop::Stop;
+use crate::streams::Streams;
+use bm_host::{Host, Role};
+use drive_model::Drive;
+use run_words::{Options, read_options};
+use std::alloc::Global;
+
+/// Does what the words say, to the end of the schedule.
+///
+/// Memory is taken before the first event and not after it.
+pub fn run<H: Host>(alloc: Global, words: &[String], host: &mut H) -> Result<(), Stop>
+    ensures counts { Ended result (H.outside host.old) (H.outside host.new) }
+    ensures done { OnOk result (IsDone (H.outside host.old) (H.outside host.new)) }
+    ensures bad { OnBadLine result (IsBadLine (H.outside host.old) (H.outside host.new)) }
+    ensures reason { HasItsReason (status_after result) (texts words.now) (H.outside host.old) }
+    ensures console { SameConsole (H.outside host.old) (H.outside host.new) }
+{
+    let Some(options) = read_options(words) else {
+        return Err(Stop::Usage);
+    };
+    let size = match measure(host, &options) {
+        Ok(size) => size,
+        Err(stop) => return Err(stop),
+    };
+    run_events(alloc, host, &options, size)
+}
+// Does the events over files that are suitable, of which the disk has `size` bytes.
+fn run_events<H: Host>(
+    alloc: Global,
+    host: &mut H,
+    options: &Options<'_>,
+    size: u64,
+) -> Result<(), Stop>
+    requires whole { size % 512 ≡ 0 }
+    requires disk { IfTold ((H.outside host.old).told Disk) (λ bytes. length bytes ≡ size) }
+    ensures counts { Ended result (H.outside host.old) (H.outside host.new) }
+    ensures late { IfErr result IsLate }
+    ensures done { OnOk result (IsDone (H.outside host.old) (H.outside host.new)) }
+    ensures bad { OnBadLine result (IsBadLine (H.outside host.old) (H.outside host.new)) }
+    ensures console { SameConsole (H.outside host.old) (H.outside host.new) }
+{
+    begin_files(host, options)?;
+    let mut drive = load(alloc, host, size)?;
+    match report_run(host, &mut drive) {
+        Ok(()) => {}
+        Err(stop) => return Err(stop),
+    }
+    write_out(host, &mut drive)?;
+    Ok(())
+}
+
+// Begins the files of the run but image and disk; report and out are empty afterwards.
+fn begin_files<H: Host>(host: &mut H, options: &Options<'_>) -> Result<(), Stop>
+    ensures counts { Ended result (H.outside host.old) (H.outside host.new) }
+    ensures fault { IfErr result IsFault }
+    ensures begun { OnOk result (IsBegun (H.outside host.old) (H.outside host.new)) }
+    ensures console { SameConsole (H.outside host.old) (H.outside host.new) }
+{
+    let Ok(()) = host.begin(Role::Schedule, options.schedule) else {
+        return Err(Stop::ReadFault(Role::Schedule));
+    };
+    let Ok(()) = host.begin(Role::Report, options.report) else {
+        return Err(Stop::WriteFault(Role::Report));
+    };
+    let Ok(()) = host.begin(Role::Out, options.out) else {
+        return Err(Stop::WriteFault(Role::Out));
+    };
+    Ok(())
+}
+
+// Plays the schedule to its end, and writes the report; the same up to a line that is bad.
+fn report_run<H: Host>(host: &mut H, drive: &mut Drive) -> Result<(), Stop>
+    requires { IsReady (H.outside host.old) }
+    ensures counts { Ended result (H.outside host.old) (H.outside host.new) }
+    ensures files { KeepsFiles (H.outside host.old) (H.outside host.new) }
+    ensures late { IfErr result IsLate }
+    ensures reported { OnOk result (IsReported (H.outside host.old) (H.outside host.new)
+        (plain (device_of drive.old) []) (plain (device_of drive.new) [])) }
+    ensures bad { OnBadLine result (IsStopped (H.outside host.old) (H.outside host.new)
+        (plain (device_of drive.old) []) (plain (device_of drive.new) [])) }
+{
+    let mut streams = Streams::new();
+    let number = match play_to_end(host, &mut streams, drive) {
+        Ok(number) => number,
+        Err(stop) => return Err(stop),
+    };
+    streams.report_end(host, number)?;
+    streams.flush(host)?;
+    Ok(())
+}
+
+// Plays the schedule. Where a line isn't one, the report of the events before it is written all the same.
+fn play_to_end<H: Host>(host: &mut H, streams: &mut Streams, drive: &mut Drive) -> Result<u32, Stop>
+    ensures counts { Ended result (H.outside host.old) (H.outside host.new) }
+    ensures files { KeepsFiles (H.outside host.old) (H.outside host.new) }
+    ensures late { IfErr result IsLate }
+    ensures ended { IfOk result (λ number. (start : Plain)
+        → HasPlayed start streams.old (H.outside host.old) (plain (device_of drive.old) []) 0
+        → HasEnded start streams.new (H.outside host.new) (plain (device_of drive.new) []) number) }
+    ensures bad { OnBadLine result (λ bad kind. (start : Plain)
+        → HasPlayed start streams.old (H.outside host.old) (plain (device_of drive.old) []) 0
+        → HasFailed start streams.new (H.outside host.new) (plain (device_of drive.new) []) bad kind) }
+    ensures written { OnBadLine result (λ bad kind. streams.new.pending.items ≡ []) }
+{
+    match play(host, streams, drive) {
+        Ok(number) => Ok(number),
+        Err(Stop::BadLine(number, fault)) => match streams.flush(host) {
+            Ok(()) => Err(Stop::BadLine(number, fault)),
+            Err(stop) => Err(stop),
+        },
+        Err(stop) => Err(stop),
+    }
+}

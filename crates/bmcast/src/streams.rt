@@ -1,0 +1,266 @@
+//! The schedule as it is read in blocks, and the report as it is written in blocks.
+
+ghost use Rattle.std.specs.Prelude.{◌≡◌, ◌≢◌, ◌≤◌, ◌<◌, ◌+◌, ◌++◌, ℕ, List, [], ◌∷◌, length, IfErr, IfOk, OnOk, MatchOption};
+
+use crate::stop::Stop;
+use arrayvec::ArrayVec;
+use bm_host::{Host, Role};
+use schedule_text::{Emitted, Item, LINE_BYTES, write_end, write_item};
+
+/// The bytes of the schedule that are read in one call.
+pub const BLOCK: usize = 4096;
+
+/// The report's lines that are gathered before they are written.
+pub const PENDING: usize = 16384;
+
+/// The bytes that a line of the report may have.
+pub const REPORT_LINE: usize = 4096;
+
+/// A block of the schedule with what is taken of it, and the report's lines that aren't written yet.
+///
+/// Lines wait until the next call to the host that isn't a write to Report, so a fault of another role finds the
+/// report exact (own).
+#[derive(Drop)]
+pub struct Streams {
+    pub block: [u8; BLOCK],
+    /// The bytes of the block that are taken.
+    pub at: usize,
+    /// The bytes of the block that the host gave.
+    pub end: usize,
+    pub pending: ArrayVec<u8, PENDING>,
+    /// The report's line in hand.
+    pub line: ArrayVec<u8, REPORT_LINE>,
+    ghost taken: { at ≤ end },
+    ghost given: { end ≤ 4096 },
+}
+
+impl Streams {
+    ghost use Rattle.bm_host.specs.Outside.{IfTold};
+    ghost use Rattle.bm_host.specs.declared.Role.TheVariants.{Report, Schedule};
+    ghost use Rattle.schedule_text.specs.Report.{end_text, line_text};
+    ghost use Rattle.plain_run.specs.Entry.{items_text};
+    ghost use Rattle.bmcast.specs.Stop.{Ended, IsFault};
+    ghost use Rattle.bmcast.specs.Streams.{unread, Said, Takes, Fetches, KeepsFiles};
+
+    /// Nothing read and nothing to write.
+    pub fn new() -> Streams
+        ensures pending { result.pending.items ≡ [] }
+        ensures block { result.at ≡ result.end }
+    {
+        Streams {
+            block: [0; BLOCK],
+            at: 0,
+            end: 0,
+            pending: ArrayVec::new(),
+            line: ArrayVec::new(),
+        }
+    }
+
+    /// Writes the lines that wait.
+    pub fn flush<H: Host>(&mut self, host: &mut H) -> Result<(), Stop>
+        ensures counts { Ended result (H.outside host.old) (H.outside host.new) }
+        ensures fault { IfErr result IsFault }
+        ensures files { KeepsFiles (H.outside host.old) (H.outside host.new) }
+        ensures block { self.new ≡ record self.old { pending = self.new.pending } }
+        ensures said { OnOk result ((text : List ℕ) → Said self.old (H.outside host.old) text → Said self.new (H.outside host.new) text) }
+        ensures empty { OnOk result (self.new.pending.items ≡ []) }
+        ensures schedule { (H.outside host.new).given Schedule ≡ (H.outside host.old).given Schedule }
+    {
+        if self.pending.is_empty() {
+            return Ok(());
+        }
+        let Ok(()) = host.write_next(Role::Report, self.pending.as_slice()) else {
+            return Err(Stop::WriteFault(Role::Report));
+        };
+        self.pending.clear();
+        Ok(())
+    }
+
+    /// Appends the report's lines for an event whose line has this number.
+    pub fn report<H: Host>(&mut self, host: &mut H, number: u32, out: &Emitted) -> Result<(), Stop>
+        ensures counts { Ended result (H.outside host.old) (H.outside host.new) }
+        ensures fault { IfErr result IsFault }
+        ensures files { KeepsFiles (H.outside host.old) (H.outside host.new) }
+        ensures said { OnOk result ((text : List ℕ) → Said self.old (H.outside host.old) text
+            → Said self.new (H.outside host.new)
+            (text ++ items_text number out.now.items.items out.now.bytes.items)) }
+        ensures unread { OnOk result ((text : List ℕ) → unread self.new (H.outside host.new) text
+            ≡ unread self.old (H.outside host.old) text) }
+    {
+        for item in out.items.as_slice() {
+            self.report_item(host, number, item, out.bytes.as_slice())?;
+        }
+        Ok(())
+    }
+
+    fn report_item<H: Host>(
+        &mut self,
+        host: &mut H,
+        number: u32,
+        item: &Item,
+        bytes: &[u8],
+    ) -> Result<(), Stop>
+        requires { length bytes.now ≤ 2000 }
+        ensures counts { Ended result (H.outside host.old) (H.outside host.new) }
+        ensures fault { IfErr result IsFault }
+        ensures files { KeepsFiles (H.outside host.old) (H.outside host.new) }
+        ensures said { OnOk result ((text : List ℕ) → Said self.old (H.outside host.old) text
+            → Said self.new (H.outside host.new) (text ++ line_text number item.now bytes.now)) }
+        ensures unread { OnOk result ((text : List ℕ) → unread self.new (H.outside host.new) text
+            ≡ unread self.old (H.outside host.old) text) }
+    {
+        write_item(number, item, bytes, &mut self.line);
+        self.push_line(host)
+    }
+
+    /// Appends the report's last line; the schedule's line `end` has this number.
+    pub fn report_end<H: Host>(&mut self, host: &mut H, number: u32) -> Result<(), Stop>
+        ensures counts { Ended result (H.outside host.old) (H.outside host.new) }
+        ensures fault { IfErr result IsFault }
+        ensures files { KeepsFiles (H.outside host.old) (H.outside host.new) }
+        ensures said { OnOk result ((text : List ℕ) → Said self.old (H.outside host.old) text
+            → Said self.new (H.outside host.new) (text ++ end_text number)) }
+    {
+        write_end(number, &mut self.line);
+        self.push_line(host)
+    }
+
+    // Appends the line that was written.
+    fn push_line<H: Host>(&mut self, host: &mut H) -> Result<(), Stop>
+        ensures counts { Ended result (H.outside host.old) (H.outside host.new) }
+        ensures fault { IfErr result IsFault }
+        ensures files { KeepsFiles (H.outside host.old) (H.outside host.new) }
+        ensures said { OnOk result ((text : List ℕ) → Said self.old (H.outside host.old) text
+            → Said self.new (H.outside host.new) (text ++ self.old.line.items)) }
+        ensures unread { OnOk result ((text : List ℕ) → unread self.new (H.outside host.new) text
+            ≡ unread self.old (H.outside host.old) text) }
+    {
+        self.make_room(host)?;
+        self.pending
+            .try_extend_from_slice(self.line.as_slice())
+            .unwrap();
+        Ok(())
+    }
+
+    // Writes the lines that wait, where another might not fit beside them.
+    fn make_room<H: Host>(&mut self, host: &mut H) -> Result<(), Stop>
+        ensures counts { Ended result (H.outside host.old) (H.outside host.new) }
+        ensures fault { IfErr result IsFault }
+        ensures files { KeepsFiles (H.outside host.old) (H.outside host.new) }
+        ensures said { OnOk result ((text : List ℕ) → Said self.old (H.outside host.old) text
+            → Said self.new (H.outside host.new) text) }
+        ensures room { OnOk result (length self.new.pending.items + 4096 ≤ 16384) }
+        ensures line { self.new.line ≡ self.old.line }
+        ensures unread { OnOk result ((text : List ℕ) → unread self.new (H.outside host.new) text
+            ≡ unread self.old (H.outside host.old) text) }
+    {
+        if self.pending.len() + REPORT_LINE <= PENDING {
+            return Ok(());
+        }
+        self.flush(host)
+    }
+
+    // Reads the next block of the schedule, where the last one is taken.
+    fn refill<H: Host>(&mut self, host: &mut H) -> Result<(), Stop>
+        ensures counts { Ended result (H.outside host.old) (H.outside host.new) }
+        ensures fault { IfErr result IsFault }
+        ensures files { KeepsFiles (H.outside host.old) (H.outside host.new) }
+        ensures said { OnOk result ((text : List ℕ) → Said self.old (H.outside host.old) text
+            → Said self.new (H.outside host.new) text) }
+        ensures unread { OnOk result (IfTold ((H.outside host.old).told Schedule)
+            (λ text. unread self.new (H.outside host.new) text ≡ unread self.old (H.outside host.old) text)) }
+        ensures end { OnOk result (IfTold ((H.outside host.old).told Schedule)
+            (λ text. self.new.at ≡ self.new.end → unread self.old (H.outside host.old) text ≡ [])) }
+    {
+        if self.at < self.end {
+            return Ok(());
+        }
+        self.flush(host)?;
+        let mut block = [0; BLOCK];
+        let Ok(end) = host.read_next(Role::Schedule, &mut block) else {
+            return Err(Stop::ReadFault(Role::Schedule));
+        };
+        self.block = block;
+        self.at = 0;
+        self.end = end;
+        Ok(())
+    }
+
+    /// Takes the next byte of the schedule; there is none at its end.
+    #[tactic(auto, using(crate::proofs::Blocks::next_of_block))]
+    pub fn next_byte<H: Host>(&mut self, host: &mut H) -> Result<Option<u8>, Stop>
+        ensures counts { Ended result (H.outside host.old) (H.outside host.new) }
+        ensures fault { IfErr result IsFault }
+        ensures files { KeepsFiles (H.outside host.old) (H.outside host.new) }
+        ensures said { OnOk result ((text : List ℕ) → Said self.old (H.outside host.old) text
+            → Said self.new (H.outside host.new) text) }
+        ensures byte { IfOk result (λ byte. IfTold ((H.outside host.old).told Schedule)
+            (λ text. Takes byte (unread self.old (H.outside host.old) text)
+            (unread self.new (H.outside host.new) text))) }
+    {
+        self.refill(host)?;
+        if self.at == self.end {
+            return Ok(None);
+        }
+        let byte = self.block[self.at];
+        self.at += 1;
+        Ok(Some(byte))
+    }
+
+    /// Takes the next line of the schedule into `line`, without its line feed.
+    pub fn next_line<H: Host>(&mut self, host: &mut H, line: &mut Line) -> Result<Fetched, Stop>
+        ensures counts { Ended result (H.outside host.old) (H.outside host.new) }
+        ensures fault { IfErr result IsFault }
+        ensures files { KeepsFiles (H.outside host.old) (H.outside host.new) }
+        ensures said { OnOk result ((text : List ℕ) → Said self.old (H.outside host.old) text
+            → Said self.new (H.outside host.new) text) }
+        ensures line { IfOk result (λ fetched. IfTold ((H.outside host.old).told Schedule)
+            (λ text. Fetches fetched line.new.items (unread self.old (H.outside host.old) text)
+            (unread self.new (H.outside host.new) text))) }
+    {
+        line.clear();
+        loop {
+            let Some(byte) = self.next_byte(host)? else {
+                return Ok(Fetched::at_end(line));
+            };
+            if byte == b'\n' {
+                return Ok(Fetched::Line);
+            }
+            if line.is_full() {
+                return Ok(Fetched::TooLong);
+            }
+            line.push(byte);
+        }
+    }
+}
+
+/// A line of the schedule.
+pub type Line = ArrayVec<u8, LINE_BYTES>;
+
+/// What stands next in the schedule.
+#[derive(Clone, Copy, Debug, PartialEq, Eq)]
+pub enum Fetched {
+    /// A line, with its line feed.
+    Line,
+    /// A line that the end of the schedule cuts off before its line feed.
+    LastLine,
+    /// Nothing: the schedule has ended.
+    Nothing,
+    /// More bytes than a line may have.
+    TooLong,
+}
+
+impl Fetched {
+    ghost use Rattle.bmcast.specs.Streams.{fetched_at_end};
+
+    // The schedule has ended behind these bytes.
+    fn at_end(line: &Line) -> Fetched
+        ensures { result ≡ fetched_at_end line.now.items }
+    {
+        if line.is_empty() {
+            Fetched::Nothing
+        } else {
+            Fetched::LastLine
+        }
+    }
+}

@@ -1,0 +1,61 @@
+//! Runs that are done: the report, and out.
+
+use crate::hosts::{DISK, joined, run_schedule};
+use bm_host::{NoMemory, Role};
+use bmcast::Status;
+use std::alloc::Global;
+use std::test::Fail;
+
+// By hand: the last line of a report has the number of the line `end`. A remark, an empty line and a step without an
+// effect count as lines and give none; the first step ends the reset, and a second one has nothing to do.
+#[test]
+fn short_schedules_and_their_reports(rt: HostRuntime) -> Result<(), Fail> {
+    let mut longest = [b'#'; 4101];
+    longest[4096..].copy_from_slice(b"\nend\n");
+    let cases: [(&[u8], &[u8]); 6] = [
+        (b"end\n", b"end 1\n"),
+        (b"end", b"end 1\n"),
+        (b"# note\n\nend\n", b"end 3\n"),
+        (b"d ok\nd ok\nend\n", b"1 p go 1\nend 3\n"),
+        (b"g r8 st\ng line\nend\n", b"1 o 80\n2 o 00\nend 3\n"),
+        (&longest, b"end 2\n"),
+    ];
+    for (schedule, report) in cases {
+        let (status, host) = run_schedule(rt.alloc(), schedule, &[])?;
+        assert_eq!(rt; status, Status::Done, "at {report:?}");
+        assert_eq!(rt; host.contents(Role::Report), report);
+        assert_eq!(rt; host.contents(Role::Out), DISK.as_slice(), "at {report:?}");
+        assert_eq!(rt;
+            host.contents(Role::Console),
+            b"".as_slice(),
+            "at {report:?}"
+        );
+    }
+    Ok(())
+}
+
+/// READ SECTOR(S) of sector 3 by PIO, and its interrupt acknowledged by a look at Status.
+pub const READ: &[u8] = b"d ok\n\
+    g w8 sc 01\ng w8 ll 03\ng w8 lm 00\ng w8 lh 00\ng w8 dv e0\ng w8 st 20\n\
+    g r8 al\nd ok\ng line\ng r8 st\ng line\ng rd 2\ng rd 254\ng r8 al\nend\n";
+
+/// The report's lines of these events without the last one, by hand from the rules of the drive: it is busy from the
+/// write of the command on, has the block after one step, raises the line until Status is read, and is ready after
+/// the last word. The disk's bytes are all EEh.
+pub fn report_of_read(alloc: Global) -> Result<Vec<u8>, NoMemory> {
+    let start =
+        b"1 p go 1\n7 c 20 3 1\n8 o 80\n9 p go 1\n10 o 01\n11 o 58\n12 o 00\n13 o eeeeeeee\n14 o ";
+    joined(alloc, [start, &[b'e'; 1016], b"\n15 o 50\n"])
+}
+
+#[test]
+fn one_sector_is_read_by_pio(rt: HostRuntime) -> Result<(), Fail> {
+    let mut report = report_of_read(rt.alloc())?;
+    report.extend_from_slice(b"end 16\n")?;
+    let (status, host) = run_schedule(rt.alloc(), READ, &[])?;
+    assert_eq!(rt; status, Status::Done);
+    assert_eq!(rt; host.contents(Role::Report), report.as_slice());
+    assert_eq!(rt; host.contents(Role::Out), DISK.as_slice());
+    assert_eq!(rt; host.contents(Role::Console), b"".as_slice());
+    Ok(())
+}

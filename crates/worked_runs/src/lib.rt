@@ -1,0 +1,16 @@
+//! Whole runs of `bmcast` over files in memory: what it writes, and how it ends.
+//!
+//! It has tests alone. Start with `hosts`, the files and words that the runs have in common; then `done` for runs
+//! that are done, `refusals` for files, words and lines that are refused, and `faults` for hosts that fail. The
+//! values are by hand from `docs/formats.md` and `docs/drive.md`.
+
+#![tactic(auto)]
+
+#[cfg(test)]
+mod done;
+#[cfg(test)]
+mod faults;
+#[cfg(test)]
+mod hosts;
+#[cfg(test)]
+mod refusals;

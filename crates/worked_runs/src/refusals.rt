@@ -1,0 +1,128 @@
+//! Runs that are refused: by their words, by the lengths of image and disk, and by a line of the schedule.
+
+use crate::hosts::{Ending, Files, OLD_REPORT, WORDS, joined, run, run_schedule, run_words};
+use bm_host::Role;
+use bmcast::{Status, Why};
+use schedule_text::LineFault;
+use std::test::Fail;
+
+const USAGE: &[u8] = b"bmcast: the words are not a command line of this program\n";
+
+// The first words of a run alone. By hand from the rule of the command line, as the words below.
+#[test]
+fn words_missing(rt: HostRuntime) -> Result<(), Fail> {
+    for count in [0, 1, 13, 14, 18] {
+        assert!(rt; count < WORDS.len());
+        let (status, host) = run_words(rt.alloc(), &WORDS[..count], &[])?;
+        assert_eq!(rt; status, Status::Usage, "at {count}");
+        assert_eq!(rt; host.contents(Role::Console), USAGE);
+        assert_eq!(rt; host.contents(Role::Report), OLD_REPORT);
+    }
+    Ok(())
+}
+
+// The words of a run, and two more.
+#[test]
+fn words_twice_or_unknown(rt: HostRuntime) -> Result<(), Fail> {
+    let cases = [
+        ("--image", "other"),
+        ("--id", "7"),
+        ("--pools", "8"),
+        ("--limit", "08"),
+        ("--limit", "-8"),
+        ("--help", "run"),
+    ];
+    for (name, value) in cases {
+        let (status, host) = run_words(rt.alloc(), &WORDS, &[name, value])?;
+        assert_eq!(rt; status, Status::Usage, "at {name} {value}");
+        assert_eq!(rt; host.contents(Role::Console), USAGE);
+        assert_eq!(rt; host.contents(Role::Report), OLD_REPORT);
+    }
+    Ok(())
+}
+
+const IMAGE_LENGTH: Ending = (
+    Status::Unsuitable(Why::ImageLength),
+    b"bmcast: unsuitable: ImageLength\n",
+);
+
+const DISK_LENGTH: Ending = (
+    Status::Unsuitable(Why::DiskLength),
+    b"bmcast: unsuitable: DiskLength\n",
+);
+
+const TOO_SMALL: Ending = (
+    Status::Unsuitable(Why::TooSmall),
+    b"bmcast: unsuitable: TooSmall\n",
+);
+
+const NOT_YET: Ending = (Status::NotYet, b"bmcast: not yet\n");
+
+// Bytes of the image and of the disk. A block is 8 sectors, so an image of one block wants a disk of 11: 8 for the
+// image, one for the bitmap, and two more.
+#[test]
+fn lengths_of_image_and_disk(rt: HostRuntime) -> Result<(), Fail> {
+    let cases: [(usize, usize, Ending); 8] = [
+        (5, 8192, IMAGE_LENGTH),
+        (5, 513, IMAGE_LENGTH),
+        (512, 8192, IMAGE_LENGTH),
+        (0, 513, DISK_LENGTH),
+        (0, 0, TOO_SMALL),
+        (4096, 5120, TOO_SMALL),
+        (4096, 5632, NOT_YET),
+        (0, 512, (Status::Done, b"")),
+    ];
+    for (image, disk, (wanted, console)) in cases {
+        let image = vec![in rt.alloc(); 0; image]?;
+        let disk = vec![in rt.alloc(); 0; disk]?;
+        let files = Files {
+            image: image.as_slice(),
+            disk: disk.as_slice(),
+            schedule: b"end\n",
+            failing: &[],
+        };
+        let (status, host) = run(rt.alloc(), &WORDS, &[], &files)?;
+        assert_eq!(rt; status, wanted, "at {console:?}");
+        assert_eq!(rt; host.contents(Role::Console), console);
+    }
+    Ok(())
+}
+
+// A schedule, the line that is refused and why, the report, and how the line on Console goes on. The report has the
+// lines of the events before, and no last line.
+const LINES: [(&[u8], u32, LineFault, &[u8], &[u8]); 10] = [
+    (b"", 1, LineFault::NoEnd, b"", b"1: NoEnd"),
+    (b"d ok\n", 2, LineFault::NoEnd, b"1 p go 1\n", b"2: NoEnd"),
+    (b"d ok", 2, LineFault::NoEnd, b"1 p go 1\n", b"2: NoEnd"),
+    (b"g rd 257\nend\n", 1, LineFault::Number, b"", b"1: Number"),
+    (b"g r8 xx\nend\n", 1, LineFault::Form, b"", b"1: Form"),
+    (
+        b"# note\nd ok\n\nt\n",
+        4,
+        LineFault::Form,
+        b"2 p go 1\n",
+        b"4: Form",
+    ),
+    (b"end\nt\n", 2, LineFault::Trailing, b"", b"2: Trailing"),
+    (b"end\nt", 2, LineFault::Trailing, b"", b"2: Trailing"),
+    (
+        b"d ok\nend\n\n",
+        3,
+        LineFault::Trailing,
+        b"1 p go 1\n",
+        b"3: Trailing",
+    ),
+    (&[b'#'; 4097], 1, LineFault::LongLine, b"", b"1: LongLine"),
+];
+
+#[test]
+fn lines_that_end_a_run(rt: HostRuntime) -> Result<(), Fail> {
+    for (schedule, number, fault, report, said) in LINES {
+        let (status, host) = run_schedule(rt.alloc(), schedule, &[])?;
+        let console = joined(rt.alloc(), [b"bmcast: line ", said, b"\n"])?;
+        assert_eq!(rt; status, Status::BadLine(number, fault));
+        assert_eq!(rt; host.contents(Role::Report), report, "at {console:?}");
+        assert_eq!(rt; host.contents(Role::Console), console.as_slice());
+    }
+    Ok(())
+}
