@@ -1,18 +1,19 @@
 -- The first line of a schedule that isn't one.
-use Rattle.std.proofs.Common.{◌≡◌, ◌≢◌, ◌<◌, ◌+◌, ◌++◌, ℕ, List, [], ◌∷◌, length, refl, sym, ◌∙◌, subst, arith, Option}
+use Rattle.std.proofs.Common.{◌≡◌, ◌≢◌, ◌≤◌, ◌+◌, ℕ, List, [], length, sym, ◌∙◌, subst, arith, Option}
 use Rattle.std.specs.Prelude.{Result}
 use Rattle.schedule_text.specs.declared.Event.{Event}
 use Rattle.schedule_text.specs.declared.LineFault.{LineFault}
 use Rattle.schedule_text.specs.declared.LineFault.TheVariants as fault
+use Rattle.schedule_text.specs.declared.TheConstants.{LAST_LINE}
 use Rattle.schedule_text.specs.Line.{HasFault}
-use Rattle.schedule_text.specs.Schedule.{IsOneLine, HasNoEnd}
+use Rattle.schedule_text.specs.Schedule.{HasRead, HasNoEnd, MayGoOn}
+use Rattle.schedule_text.specs.BadLine.{first_line, LineFails, FailsWith, FailsAt}
+use Rattle.schedule_text.proofs.Lines.{some_bytes, first_line-line, first_line-last, first_line-long}
 use Rattle.bm_host.specs.Outside.{IfTold}
 use Rattle.bmcast.specs.declared.streams.Fetched.TheVariants as fetched
 use Rattle.bmcast.specs.declared.stop.Stop.{Stop}
 use Rattle.bmcast.specs.Streams.{Fetches}
 use Rattle.bmcast.specs.Stop.{OnBadLine}
-use Rattle.bmcast.specs.Played.{HasRead}
-use Rattle.bmcast.specs.BadLine.{first_line, LineFails, FailsWith, FailsAt}
 use Rattle.bmcast.proofs.StopLaws.{bad_line_weaker}
 use Rattle.bmcast.proofs.Told.{IfTold-weaker}
 use Rattle.bmcast.proofs.Lines.{said_in_range}
@@ -28,24 +29,11 @@ line_fails line fault.Trailing number has = has
 
 pub ruleset said_laws = (said_in_range, line_fails)
 
--- the first line of a text
-first_line-line : (line rest : List ℕ) → IsOneLine line → first_line (line ++ 10 ∷ rest) ≡ line
-first_line-line [] rest one = refl
-first_line-line (byte ∷ line) rest one = let tail = first_line-line line rest one.1 in let no = one.0 in grind arith
+module _ (text : List ℕ) (events : List Event) (number : ℕ) (left : List ℕ) (within : number ≤ LAST_LINE) (unended : HasNoEnd events) (next : length events + 1 ≡ number) (read : HasRead text left events) where
+  -- a line is due
+  goes_on : MayGoOn events
+  goes_on = (unended, omega arith)
 
-first_line-last : (line : List ℕ) → IsOneLine line → first_line line ≡ line
-first_line-last [] one = refl
-first_line-last (byte ∷ line) one = let tail = first_line-last line one.1 in let no = one.0 in grind arith
-
-first_line-long : (line rest : List ℕ) (byte : ℕ) → IsOneLine line → byte ≢ 10 → length line < length (first_line (line ++ byte ∷ rest))
-first_line-long [] rest byte one other = grind arith
-first_line-long (c ∷ line) rest byte one other = let tail = first_line-long line rest byte one.1 other in let no = one.0 in grind arith
-
-some_left : (line rest : List ℕ) (byte : ℕ) → line ++ byte ∷ rest ≢ []
-some_left [] rest byte e = cc
-some_left (c ∷ line) rest byte e = cc
-
-module _ (text : List ℕ) (events : List Event) (number : ℕ) (left : List ℕ) (unended : HasNoEnd events) (next : length events + 1 ≡ number) (read : HasRead text left events) where
   -- more is left than a line may have
   fails_long : (line new : List ℕ) → Fetches fetched.TooLong line left new → FailsAt text events number fault.LongLine
   fails_long line new (one, full, (byte, other, is)) = record {
@@ -53,18 +41,18 @@ module _ (text : List ℕ) (events : List Event) (number : ℕ) (left : List ℕ
     read = read;
     next = next;
     fails = record {
-      unended = unended;
-      some = λ none. some_left line new byte (sym is ∙ none);
+      goes_on = goes_on;
+      some = λ none. some_bytes line new byte (sym is ∙ none);
       fails = rw is (let longer = first_line-long line new byte one other in omega arith);
     };
   }
 
   -- the line that is left first fails
   due : (kind : LineFault) → left ≢ [] → LineFails kind number (first_line left) → FailsWith kind number events left
-  due fault.Form some fails = record { unended = unended; some = some; fails = fails }
-  due fault.Number some fails = record { unended = unended; some = some; fails = fails }
-  due fault.LongLine some fails = record { unended = unended; some = some; fails = fails }
-  due fault.TooMany some fails = record { unended = unended; some = some; fails = fails }
+  due fault.Form some fails = record { goes_on = goes_on; some = some; fails = fails }
+  due fault.Number some fails = record { goes_on = goes_on; some = some; fails = fails }
+  due fault.LongLine some fails = record { goes_on = goes_on; some = some; fails = fails }
+  due fault.TooMany some fails = record { goes_on = goes_on; some = some; fails = fails }
   due fault.NoEnd some fails = absurd fails
   due fault.Trailing some fails = absurd fails
 
@@ -73,7 +61,7 @@ module _ (text : List ℕ) (events : List Event) (number : ℕ) (left : List ℕ
     left = left;
     read = read;
     next = next;
-    fails = due kind (λ none. some_left line new 10 (sym is ∙ none)) (subst (LineFails kind number) (sym (rw is (first_line-line line new one))) fails);
+    fails = due kind (λ none. some_bytes line new 10 (sym is ∙ none)) (subst (LineFails kind number) (sym (rw is (first_line-line line new one))) fails);
   }
 
   fails_last : (kind : LineFault) (line new : List ℕ) → Fetches fetched.LastLine line left new → LineFails kind number line → FailsAt text events number kind
@@ -85,10 +73,10 @@ module _ (text : List ℕ) (events : List Event) (number : ℕ) (left : List ℕ
   }
 
 -- the same of what is told, for each way in which the next line fails
-module _ (told : Option (List ℕ)) (number : ℕ) (old new : List ℕ → List ℕ) where
+module _ (told : Option (List ℕ)) (number : ℕ) (within : number ≤ LAST_LINE) (old new : List ℕ → List ℕ) where
   pub told_long : (line : List ℕ) → IfTold told (λ text. Fetches fetched.TooLong line (old text) (new text))
       → IfTold told (λ text. (events : List Event) → HasNoEnd events → length events + 1 ≡ number → HasRead text (old text) events → FailsAt text events number fault.LongLine)
-  told_long line taken = IfTold-weaker told _ _ (λ text long events unended next read. fails_long text events number (old text) unended next read line (new text) long) taken
+  told_long line taken = IfTold-weaker told _ _ (λ text long events unended next read. fails_long text events number (old text) within unended next read line (new text) long) taken
 
   -- what OnBadLine says of the next line
   abbrev Fails : ℕ → LineFault → Type 0
@@ -96,8 +84,8 @@ module _ (told : Option (List ℕ)) (number : ℕ) (old new : List ℕ → List 
 
   pub told_line : (result : Result Event Stop) (line : List ℕ) → IfTold told (λ text. Fetches fetched.Line line (old text) (new text))
       → OnBadLine result (λ n kind. (n ≡ number) × LineFails kind number line) → OnBadLine result Fails
-  told_line result line taken bad = bad_line_weaker result _ _ (λ n kind fails. (fails.0, IfTold-weaker told _ _ (λ text one events unended next read. fails_line text events number (old text) unended next read kind line (new text) one fails.1) taken)) bad
+  told_line result line taken bad = bad_line_weaker result _ _ (λ n kind fails. (fails.0, IfTold-weaker told _ _ (λ text one events unended next read. fails_line text events number (old text) within unended next read kind line (new text) one fails.1) taken)) bad
 
   pub told_last : (result : Result Event Stop) (line : List ℕ) → IfTold told (λ text. Fetches fetched.LastLine line (old text) (new text))
       → OnBadLine result (λ n kind. (n ≡ number) × LineFails kind number line) → OnBadLine result Fails
-  told_last result line taken bad = bad_line_weaker result _ _ (λ n kind fails. (fails.0, IfTold-weaker told _ _ (λ text one events unended next read. fails_last text events number (old text) unended next read kind line (new text) one fails.1) taken)) bad
+  told_last result line taken bad = bad_line_weaker result _ _ (λ n kind fails. (fails.0, IfTold-weaker told _ _ (λ text one events unended next read. fails_last text events number (old text) within unended next read kind line (new text) one fails.1) taken)) bad

@@ -9,21 +9,25 @@ use Rattle.schedule_text.specs.declared.Event.TheVariants as event
 use Rattle.schedule_text.specs.declared.Item.{Item}
 use Rattle.schedule_text.specs.declared.LineFault.{LineFault}
 use Rattle.schedule_text.specs.declared.LineFault.TheVariants as fault
-use Rattle.bmcast.specs.declared.play.TheConstants.{LAST_LINE}
-use Rattle.schedule_text.specs.Schedule.{HasNoEnd, IsSchedule}
+use Rattle.schedule_text.specs.declared.TheConstants.{LAST_LINE}
+use Rattle.schedule_text.specs.Schedule.{HasNoEnd, HasRead, IsEnded, IsSchedule}
 use Rattle.plain_run.specs.Entry.{Entry, entry_of, events_of, history_text, items_text}
 use Rattle.plain_run.specs.Run.{DirectEvent}
 use Rattle.bmcast.specs.declared.streams.Streams.{Streams}
 use Rattle.bmcast.specs.Streams.{unread, Said, KeepsFiles}
-use Rattle.bmcast.specs.Played.{HasRead, HasPlayed, HasDone, HasEnded}
-use Rattle.bmcast.specs.BadLine.{FailsAt, HasFailed}
-use Rattle.bmcast.proofs.Lines.{HasRead-schedule}
+use Rattle.bmcast.specs.Played.{HasPlayed, HasDone, HasEnded}
+use Rattle.schedule_text.specs.BadLine.{FailsAt}
+use Rattle.bmcast.specs.BadLine.{HasFailed}
 use Rattle.bmcast.proofs.Told.{IfTold-both}
 
 -- a history has as many events as entries
 events_length : (entries : List Entry) → length (events_of entries) ≡ length entries
 events_length [] = refl
 events_length (entry ∷ entries) = ap suc (events_length entries)
+
+-- the line `end` of a schedule was done, and has a number
+is_ended : (start : Plain) (s : Streams) (o : Outside) (now : Plain) (number : ℕ) (done : HasDone start s o now event.End number) → number ≤ LAST_LINE → IsEnded (events_of (done.last ∷ done.earlier))
+is_ended start s o now number done within = (done.is, (done.unended, let counted = done.length in let events = events_length done.earlier in omega arith))
 
 module _ (start : Plain) where
   -- an event was read, and then done and reported
@@ -56,14 +60,14 @@ module _ (start : Plain) where
   }
 
   -- the event `end`, behind which nothing is left
-  pub played_out : (s to : Streams) (o new : Outside) (now : Plain) (number : ℕ) → new.told Schedule ≡ o.told Schedule
+  pub played_out : (s to : Streams) (o new : Outside) (now : Plain) (number : ℕ) → number ≤ LAST_LINE → new.told Schedule ≡ o.told Schedule
       → IfTold (o.told Schedule) (λ text. unread s o text ≡ []) → ((text : List ℕ) → Said s o text → Said to new text)
       → HasDone start s o now event.End number → HasEnded start to new now number
-  played_out s to o new now number same nothing said done = record {
+  played_out s to o new now number within same nothing said done = record {
     entries = done.last ∷ done.earlier;
     run = done.run;
     schedule = subst (λ told. IfTold told (λ text. IsSchedule text (events_of (done.last ∷ done.earlier)))) (sym same)
-        (IfTold-both (o.told Schedule) _ _ _ (λ text read end. HasRead-schedule text (unread s o text) done.last.event (events_of done.earlier) read end done.is done.unended) done.read nothing);
+        (IfTold-both (o.told Schedule) _ _ _ (λ text read end. (is_ended start s o now number done within, subst (λ left. HasRead text left (events_of (done.last ∷ done.earlier))) end read)) done.read nothing);
     said = said (history_text (done.last ∷ done.earlier)) done.said;
     length = done.length;
   }
@@ -95,10 +99,10 @@ failed_on start s to o new now number kind same said failed = record {
 
 -- something follows the line `end`
 pub failed_behind : (start : Plain) (s to : Streams) (o new : Outside) (now : Plain) (number bad : ℕ) (kind : LineFault)
-    → new.told Schedule ≡ o.told Schedule → ((text : List ℕ) → Said s o text → Said to new text)
+    → number ≤ LAST_LINE → new.told Schedule ≡ o.told Schedule → ((text : List ℕ) → Said s o text → Said to new text)
     → bad ≡ number + 1 → kind ≡ fault.Trailing → IfTold (o.told Schedule) (λ text. unread s o text ≢ [])
     → HasDone start s o now event.End number → HasFailed start to new now bad kind
-failed_behind start s to o new now number bad kind same said is trailing some done = record {
+failed_behind start s to o new now number bad kind within same said is trailing some done = record {
   entries = done.last ∷ done.earlier;
   run = done.run;
   fails = subst (λ k. IfTold (new.told Schedule) (λ text. FailsAt text (events_of (done.last ∷ done.earlier)) bad k)) (sym trailing)
@@ -107,7 +111,7 @@ failed_behind start s to o new now number bad kind same said is trailing some do
         left = unread s o text;
         read = read;
         next = ap (λ k. k + 1) (events_length (done.last ∷ done.earlier) ∙ done.length) ∙ sym is;
-        fails = ((done.is, done.unended), left);
+        fails = (is_ended start s o now number done within, left);
       }) done.read some));
   said = said (history_text (done.last ∷ done.earlier)) done.said;
 }

@@ -16,7 +16,8 @@ use Rattle.bmcast.specs.Streams.{unread, Said, KeepsAllFiles, KeepsFiles, KeepsF
 use Rattle.bmcast.specs.Played.{HasPlayed, HasEnded}
 use Rattle.bmcast.specs.Run.{IsBegun, IsReady, IsReported, IsStopped, IsDone, IsBadLine, drive_over}
 use Rattle.schedule_text.specs.declared.LineFault.{LineFault}
-use Rattle.bmcast.specs.BadLine.{FailsAt, HasFailed}
+use Rattle.schedule_text.specs.BadLine.{FailsAt}
+use Rattle.bmcast.specs.BadLine.{HasFailed}
 use Rattle.bmcast.proofs.Told.{IfTold-weaker, IfTold-both, IfTold-all}
 
 -- before the first line

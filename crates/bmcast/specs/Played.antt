@@ -1,20 +1,16 @@
 -- The events that were read and done so far.
-use Rattle.std.specs.Prelude.{ℕ, ◌≡◌, ◌++◌, ◌⊎◌, List, [], ◌∷◌, length}
+use Rattle.std.specs.Prelude.{ℕ, ◌≡◌, List, ◌∷◌, length}
 use Rattle.bm_host.specs.declared.Role.TheVariants.{Schedule}
 use Rattle.bm_host.specs.Outside.{Outside, IfTold}
 use Rattle.plain_drive.specs.Plain.{Plain}
 use Rattle.schedule_text.specs.declared.Event.{Event}
-use Rattle.schedule_text.specs.Schedule.{HasLines, HasNoEnd, IsSchedule}
+use Rattle.schedule_text.specs.Schedule.{HasNoEnd, HasRead, IsSchedule}
 use Rattle.plain_run.specs.Entry.{Entry, events_of, history_text}
 use Rattle.plain_run.specs.Run.{IsDirectRun}
 use Rattle.bmcast.specs.declared.play.Progress.{Progress}
 use Rattle.bmcast.specs.declared.play.Progress.TheVariants as progress
 use Rattle.bmcast.specs.declared.streams.Streams.{Streams}
 use Rattle.bmcast.specs.Streams.{unread, Said}
-
--- the text is the lines of these events and then what is left; behind a last line without its line feed (10) nothing is
-abbrev pub HasRead : List ℕ → List ℕ → List Event → Type 0
-HasRead text left events = (before : List ℕ) × HasLines before events × ((text ≡ before ++ left) ⊎ ((left ≡ []) × (before ≡ text ++ 10 ∷ [])))
 
 -- these entries were read from the schedule, done and reported, and led from the start to now; `end` isn't among them
 pub record IsPlayed (start : Plain) (s : Streams) (o : Outside) (now : Plain) (entries : List Entry) : Type 0 where

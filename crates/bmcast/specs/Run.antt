@@ -8,7 +8,7 @@ use Rattle.schedule_text.specs.Schedule.{IsSchedule}
 use Rattle.plain_run.specs.Entry.{Entry, events_of, history_text, report_text}
 use Rattle.plain_run.specs.Run.{IsDirectRun}
 use Rattle.schedule_text.specs.declared.LineFault.{LineFault}
-use Rattle.bmcast.specs.BadLine.{FailsAt}
+use Rattle.schedule_text.specs.BadLine.{FailsAt}
 
 -- schedule, report and out were begun: the schedule is as it was and will be read from its start, the others are empty
 pub record IsBegun (old new : Outside) : Type 0 where

@@ -7,13 +7,14 @@ ghost use Rattle.plain_drive.specs.Plain.{plain, Plain};
 ghost use Rattle.drive_model.specs.Drive.{device_of};
 ghost use Rattle.schedule_text.specs.Line.{Says, IsInRange};
 ghost use Rattle.schedule_text.specs.declared.Event.{Event as EventOf};
-ghost use Rattle.schedule_text.specs.Schedule.{HasNoEnd};
+ghost use Rattle.schedule_text.specs.Schedule.{HasNoEnd, HasRead};
+ghost use Rattle.schedule_text.specs.BadLine.{FailsAt, LineFails};
 ghost use Rattle.plain_run.specs.Entry.{entry_of, items_text};
 ghost use Rattle.plain_run.specs.Run.{DirectEvent};
-ghost use Rattle.bmcast.specs.BadLine.{FailsAt, HasFailed, LineFails};
+ghost use Rattle.bmcast.specs.BadLine.{HasFailed};
 ghost use Rattle.bmcast.specs.Stop.{Ended, IsFault, IsLate, OnBadLine, UnlessFault};
 ghost use Rattle.bmcast.specs.Streams.{unread, Said, KeepsFiles};
-ghost use Rattle.bmcast.specs.Played.{HasRead, HasPlayed, HasDone, HasEnded, Progresses};
+ghost use Rattle.bmcast.specs.Played.{HasPlayed, HasDone, HasEnded, Progresses};
 
 use crate::events::apply;
 use crate::stop::Stop;
@@ -21,10 +22,7 @@ use crate::streams::{Fetched, Line, Streams};
 use arrayvec::ArrayVec;
 use bm_host::Host;
 use drive_model::Drive;
-use schedule_text::{Emitted, Event, LineFault, read_line};
-
-/// The last number that a line can have.
-pub const LAST_LINE: u32 = u32::MAX - 1;
+use schedule_text::{Emitted, Event, LAST_LINE, LineFault, read_line};
 
 /// Whether a schedule goes on.
 #[derive(Clone, Copy, Debug, PartialEq, Eq)]
@@ -40,6 +38,7 @@ fn next_event<H: Host>(
     line: &mut Line,
     number: u32,
 ) -> Result<Event, Stop>
+    requires { number ≤ LAST_LINE }
     ensures late { IfErr result IsLate }
     ensures counts { Ended result (H.outside host.old) (H.outside host.new) }
     ensures files { KeepsFiles (H.outside host.old) (H.outside host.new) }
@@ -116,6 +115,7 @@ fn take_line<H: Host>(
     out: &mut Emitted,
     number: u32,
 ) -> Result<Event, Stop>
+    requires { number ≤ LAST_LINE }
     ensures late { IfErr result IsLate }
     ensures counts { Ended result (H.outside host.old) (H.outside host.new) }
     ensures files { KeepsFiles (H.outside host.old) (H.outside host.new) }

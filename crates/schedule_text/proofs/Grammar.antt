@@ -181,7 +181,7 @@ says_short line event.Remark (note, short) = short
 says_short line event.End is = omega (arith, ap length is)
 
 -- a line that says an event isn't out of range
-says_in_range : (line : List ℕ) (e : Event) → Says line e → ¬ IsOutOfRange line
+pub says_in_range : (line : List ℕ) (e : Event) → Says line e → ¬ IsOutOfRange line
 says_in_range line e said (short, (digits, is, told, outside)) =
     let words = says_words digits e (moved e is said) in
     let value = (decimal_told words.0 (omega arith)).1 in

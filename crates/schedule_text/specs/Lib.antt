@@ -1,3 +1,4 @@
 pub mod Line
 pub mod Schedule
+pub mod BadLine
 pub mod Report

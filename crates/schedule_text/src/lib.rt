@@ -1,22 +1,27 @@
 //! The text of schedules and reports: lines to events, and what an event gave to lines.
 //!
 //! Start with `Event`, one line of a schedule, and `Item`, one line of a report. `specs/Line.antt` has the grammar
-//! of a schedule's line, `specs/Schedule.antt` that of a whole schedule, and `specs/Report.antt` the text of a
+//! of a schedule's line, `specs/Schedule.antt` that of a whole schedule, `specs/BadLine.antt` what its first bad line is, and `specs/Report.antt` the text of a
 //! report's lines. `docs/formats.md` has the same as tables.
 
 #![tactic(auto)]
 
 mod emitted;
 mod read;
+mod schedule;
 mod write;
 
 use ata_taskfile::{Reg, Step};
 pub use emitted::Emitted;
 pub use read::{line_says_one_event, read_line};
+pub use schedule::{a_schedule_has_no_bad_line, one_first_bad_line, one_schedule};
 pub use write::{write_end, write_item};
 
 /// The bytes that a schedule's line may have, without its end.
 pub const LINE_BYTES: usize = 4096;
+
+/// The last number that a schedule's line can have. Only the line `end` may have it.
+pub const LAST_LINE: u32 = u32::MAX - 1;
 
 /// What one line of a schedule says.
 #[derive(Clone, Copy, Debug, PartialEq, Eq)]
