@@ -11,3 +11,4 @@ pub mod RunLaws
 pub mod ConsoleLaws
 pub mod BadLines
 pub mod Reasons
+pub mod OwedLaws

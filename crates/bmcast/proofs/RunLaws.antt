@@ -2,7 +2,7 @@
 use Rattle.std.proofs.Common.{◌≡◌, ◌*◌, ◌/◌, ◌%◌, ◌++◌, ◌≤◌, ℕ, List, [], length, take, refl, sym, ◌∙◌, ap, subst, inl, arith, append-nil, length-take}
 use Rattle.std.proofs.Math.ListN.{drop_of_length-le}
 use Rattle.bm_host.specs.declared.Role.TheVariants.{Disk, Schedule, Report, Out, Console}
-use Rattle.bm_host.specs.Outside.{Outside, IfTold, SameBytes}
+use Rattle.bm_host.specs.Outside.{Outside, IfTold, SameBytes, SameElsewhere}
 use Rattle.ata_taskfile.specs.Device.{Device, powered_on}
 use Rattle.plain_drive.specs.Plain.{Plain, plain, stored, sectors_in, durable_bytes}
 use Rattle.plain_drive.specs.Cut.{IsOutcome}
@@ -14,10 +14,12 @@ use Rattle.plain_run.specs.Entry.{events_of, history_text, report_text}
 use Rattle.bmcast.specs.declared.streams.Streams.{Streams}
 use Rattle.bmcast.specs.Streams.{unread, Said, KeepsAllFiles, KeepsFiles, KeepsFilesBut}
 use Rattle.bmcast.specs.Played.{HasPlayed, HasEnded}
-use Rattle.bmcast.specs.Run.{IsBegun, IsReady, IsReported, IsStopped, IsDone, IsBadLine, drive_over}
+use Rattle.bmcast.specs.Run.{IsReady, IsReported, IsStopped, IsDone, IsBadLine, drive_over}
 use Rattle.schedule_text.specs.declared.LineFault.{LineFault}
 use Rattle.schedule_text.specs.BadLine.{FailsAt}
 use Rattle.bmcast.specs.BadLine.{HasFailed}
+use Rattle.bmcast.specs.Kept.{LeavesFiles, IsLeft}
+use Rattle.bmcast.specs.declared.Status.TheVariants as status
 use Rattle.bmcast.proofs.Told.{IfTold-weaker, IfTold-both, IfTold-all}
 
 -- before the first line
@@ -81,6 +83,13 @@ unwritten_out disk out size before after whole long began same written =
     let cells : after.cells ≡ stored (sectors_in (size / 512) disk) = same ∙ ap (λ (d : Device). d.cells) began in
     written ∙ ap durable_bytes cells ∙ durable_bytes-stored (size / 512) disk enough
 
+-- a run that is done leaves what it read
+read_disk : IsLeft status.Done Disk
+read_disk = (λ e. cc, λ e. cc)
+
+read_schedule : IsLeft status.Done Schedule
+read_schedule = (λ e. cc, λ e. cc)
+
 -- the drive began with the disk
 begins : (o0 o1 : Outside) (before : Device) (size : ℕ) → o1.told Disk ≡ o0.told Disk → IfTold (o0.told Disk) (λ disk. length disk ≡ size)
     → IfTold (o1.told Disk) (λ disk. before ≡ powered_on (stored (sectors_in (size / 512) disk)) (size / 512))
@@ -91,7 +100,7 @@ begins o0 o1 before size same long began = IfTold-both (o0.told Disk) _ _ _
 
 -- all steps of a run from the moment at which image and disk are known
 pub done : (o1 o2 o3 o4 o5 : Outside) (before after : Device) (size : ℕ)
-    → IsBegun o1 o2 → SameBytes o2 o3 → KeepsFiles o3 o4 → KeepsFilesBut Out o4 o5
+    → LeavesFiles status.Done o1 o2 → SameBytes o2 o3 → KeepsFiles o3 o4 → KeepsFilesBut Out o4 o5
     → size % 512 ≡ 0 → IfTold (o1.told Disk) (λ disk. length disk ≡ size)
     → IfTold (o2.told Disk) (λ disk. before ≡ powered_on (stored (sectors_in (size / 512) disk)) (size / 512))
     → IsReported o3 o4 (plain before []) (plain after [])
@@ -99,12 +108,12 @@ pub done : (o1 o2 o3 o4 o5 : Outside) (before after : Device) (size : ℕ)
     → IfTold (o5.told Out) (λ out. length out ≡ 512 * after.sectors)
     → IfTold (o5.told Out) (λ out. IsOutcome after.cells (sectors_in after.sectors out))
     → IsDone o1 o5
-done o1 o2 o3 o4 o5 before after size begun loaded played written whole long began told out out_whole outcome = record {
+done o1 o2 o3 o4 o5 before after size left loaded played written whole long began told out out_whole outcome = record {
   entries = told.entries;
   start = plain before [];
   end = plain after [];
-  began = begins o1 o2 before size begun.disk long began;
-  schedule = subst (λ o. IfTold o (λ text. IsSchedule text (events_of told.entries))) (loaded.told Schedule ∙ begun.schedule) told.schedule;
+  began = begins o1 o2 before size (left Disk read_disk) long began;
+  schedule = subst (λ o. IfTold o (λ text. IsSchedule text (events_of told.entries))) (loaded.told Schedule ∙ left Schedule read_schedule) told.schedule;
   report = subst (λ o. IfTold o (λ text. text ≡ report_text told.entries)) (sym (written Report (λ e. cc))) told.report;
   run = told.run;
   whole = out_whole;
@@ -112,20 +121,20 @@ done o1 o2 o3 o4 o5 before after size begun loaded played written whole long beg
   unwritten = IfTold-both (o1.told Disk) _ _ _
       (λ disk is n. IfTold-weaker (o5.told Out) (λ bytes. bytes ≡ durable_bytes after.cells) (λ bytes. bytes ≡ disk)
       (λ bytes e. unwritten_out disk bytes size before after whole n is (run-cells (plain before []) told.entries (plain after []) told.run) e) out)
-      (subst (λ o. IfTold o (λ disk. before ≡ powered_on (stored (sectors_in (size / 512) disk)) (size / 512))) begun.disk began) long;
+      (subst (λ o. IfTold o (λ disk. before ≡ powered_on (stored (sectors_in (size / 512) disk)) (size / 512))) (left Disk read_disk) began) long;
 }
 
 -- the same up to a bad line
 pub bad_line : (o1 o2 o3 o4 : Outside) (before after : Device) (size number : ℕ) (kind : LineFault)
-    → IsBegun o1 o2 → SameBytes o2 o3 → IfTold (o1.told Disk) (λ disk. length disk ≡ size)
+    → LeavesFiles status.Done o1 o2 → SameBytes o2 o3 → IfTold (o1.told Disk) (λ disk. length disk ≡ size)
     → IfTold (o2.told Disk) (λ disk. before ≡ powered_on (stored (sectors_in (size / 512) disk)) (size / 512))
     → IsStopped o3 o4 (plain before []) (plain after []) number kind → IsBadLine o1 o4 number kind
-bad_line o1 o2 o3 o4 before after size number kind begun loaded long began told = record {
+bad_line o1 o2 o3 o4 before after size number kind left loaded long began told = record {
   entries = told.entries;
   start = plain before [];
   end = plain after [];
-  began = begins o1 o2 before size begun.disk long began;
-  schedule = subst (λ o. IfTold o (λ text. FailsAt text (events_of told.entries) number kind)) (loaded.told Schedule ∙ begun.schedule) told.schedule;
+  began = begins o1 o2 before size (left Disk read_disk) long began;
+  schedule = subst (λ o. IfTold o (λ text. FailsAt text (events_of told.entries) number kind)) (loaded.told Schedule ∙ left Schedule read_schedule) told.schedule;
   report = told.report;
   run = told.run;
 }
@@ -157,7 +166,7 @@ bad_line_since o0 o1 o4 number kind kept bad = record {
 }
 
 -- the same after the line on Console
-pub bad_line_told : (o0 o4 o5 : Outside) (number : ℕ) (kind : LineFault) → KeepsFilesBut Console o4 o5 → IsBadLine o0 o4 number kind → IsBadLine o0 o5 number kind
+pub bad_line_told : (o0 o4 o5 : Outside) (number : ℕ) (kind : LineFault) → SameElsewhere Console o4 o5 → IsBadLine o0 o4 number kind → IsBadLine o0 o5 number kind
 bad_line_told o0 o4 o5 number kind kept bad = record {
   entries = bad.entries;
   start = bad.start;
@@ -165,5 +174,5 @@ bad_line_told o0 o4 o5 number kind kept bad = record {
   began = bad.began;
   schedule = bad.schedule;
   run = bad.run;
-  report = subst (λ o. IfTold o (λ text. text ≡ history_text bad.entries)) (sym (kept Report (λ e. cc))) bad.report;
+  report = subst (λ o. IfTold o (λ text. text ≡ history_text bad.entries)) (sym (kept.told Report (λ e. cc))) bad.report;
 }

@@ -1,15 +1,16 @@
 -- What several calls owe of the outside, one after the other.
-use Rattle.std.proofs.Common.{◌≡◌, ◌≢◌, ◌≤◌, ◌⊎◌, ◌++◌, ℕ, List, inl, inr, sym, subst, ◌∙◌, arith}
+use Rattle.std.proofs.Common.{◌≡◌, ◌≢◌, ◌≤◌, ◌⊎◌, ◌++◌, ℕ, List, inl, inr, refl, sym, subst, ◌∙◌, arith}
 use Rattle.std.specs.Prelude.{Result, Ok, Err}
 use Rattle.schedule_text.specs.declared.LineFault.{LineFault}
 use Rattle.bm_host.specs.declared.Role.{Role}
-use Rattle.bm_host.specs.Outside.{Outside, SameCounts, Rose, Reads, Writes, Becomes, AppendsPrefix}
+use Rattle.bm_host.specs.Outside.{Outside, SameElsewhere, SameCounts, Rose, Reads, Writes, Becomes, AppendsPrefix}
 use Rattle.bm_host.specs.declared.Role.TheVariants.{Console}
 use Rattle.bm_host.proofs.OutsideLaws.{same_counts_trans, only_rose_after, same_role}
 use Rattle.bmcast.specs.declared.stop.Stop.{Stop}
 use Rattle.bmcast.specs.declared.stop.Stop.TheVariants as stop
 use Rattle.bmcast.specs.Stop.{Stopped, Ended, OnBadLine, UnlessFault}
 use Rattle.bmcast.specs.Status.{OnlyConsole, HasItsCause, IsTold, OnBadLineStatus, SameConsole, UnlessDone, status_of}
+use Rattle.bmcast.specs.Kept.{IsLeft, LeavesFiles}
 use Rattle.bmcast.specs.declared.Status.{Status}
 use Rattle.bmcast.specs.declared.Status.TheVariants as status
 
@@ -140,3 +141,17 @@ bad_line_status T (stop.ReadFault role) P Q step p = tt
 bad_line_status T (stop.WriteFault role) P Q step p = tt
 bad_line_status T stop.NoMemory P Q step p = tt
 bad_line_status T stop.NotYet P Q step p = tt
+
+-- a run that stopped leaves no hold on Console
+console_not_left : (why : Stop) → IsLeft (status_of why) Console → ⊥
+console_not_left stop.Usage left = left refl
+console_not_left (stop.Unsuitable reason) left = left refl
+console_not_left stop.NotYet left = left refl
+console_not_left (stop.BadLine number kind) left = left
+console_not_left (stop.ReadFault role) left = left.0
+console_not_left (stop.WriteFault role) left = left
+console_not_left stop.NoMemory left = left
+
+-- what a run that stopped left is left when that was told on Console
+pub left_and_told : (a b c : Outside) (why : Stop) → LeavesFiles (status_of why) a b → SameElsewhere Console b c → LeavesFiles (status_of why) a c
+left_and_told a b c why left told role is = told.told role (λ e. console_not_left why (subst (λ r. IsLeft (status_of why) r) e is)) ∙ left role is

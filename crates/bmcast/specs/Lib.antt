@@ -6,3 +6,5 @@ pub mod Run
 pub mod Status
 pub mod StatusLine
 pub mod BadLine
+pub mod Kept
+pub mod Owed

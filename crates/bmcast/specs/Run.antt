@@ -10,18 +10,11 @@ use Rattle.plain_run.specs.Run.{IsDirectRun}
 use Rattle.schedule_text.specs.declared.LineFault.{LineFault}
 use Rattle.schedule_text.specs.BadLine.{FailsAt}
 
--- schedule, report and out were begun: the schedule is as it was and will be read from its start, the others are empty
-pub record IsBegun (old new : Outside) : Type 0 where
-  pub disk : new.told Disk ≡ old.told Disk
-  pub schedule : new.told Schedule ≡ old.told Schedule
-  pub given : new.given Schedule ≡ 0
-  pub report : IfTold (new.told Report) (λ bytes. bytes ≡ [])
-  pub out : IfTold (new.told Out) (λ bytes. bytes ≡ [])
-
--- nothing of the schedule is read, and the report is empty
+-- no event is read yet: nothing of the schedule is taken, and report and out are empty
 pub record IsReady (o : Outside) : Type 0 where
   pub given : o.given Schedule ≡ 0
   pub report : IfTold (o.told Report) (λ bytes. bytes ≡ [])
+  pub out : IfTold (o.told Out) (λ bytes. bytes ≡ [])
 
 -- the schedule was played to its end, from one state of the drive to another, and the report is its text
 pub record IsReported (old new : Outside) (start now : Plain) : Type 0 where

@@ -56,6 +56,17 @@ OnDone (status.BadLine number fault) P = Unit {0}
 OnDone status.NoMemory P = Unit {0}
 OnDone status.NotYet P = Unit {0}
 
+-- a fact for want of memory
+abbrev pub OnNoMemory : Status → Type 0 → Type 0
+OnNoMemory status.NoMemory P = P
+OnNoMemory status.Done P = Unit {0}
+OnNoMemory status.Usage P = Unit {0}
+OnNoMemory (status.Unsuitable why) P = Unit {0}
+OnNoMemory (status.BadLine number fault) P = Unit {0}
+OnNoMemory (status.ReadFault role) P = Unit {0}
+OnNoMemory (status.WriteFault role) P = Unit {0}
+OnNoMemory status.NotYet P = Unit {0}
+
 -- the status of a run that stopped
 abbrev pub status_of : Stop → Status
 status_of stop.Usage = status.Usage

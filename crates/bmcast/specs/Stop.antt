@@ -52,7 +52,17 @@ IsFault (stop.BadLine number fault) = ⊥
 IsFault stop.NoMemory = ⊥
 IsFault stop.NotYet = ⊥
 
--- a stop once the events may begin: a fault, a bad line or want of memory
+-- a stop while events are done: a fault or a bad line
+abbrev pub IsPlayStop : Stop → Type 0
+IsPlayStop (stop.ReadFault role) = Unit {0}
+IsPlayStop (stop.WriteFault role) = Unit {0}
+IsPlayStop (stop.BadLine number fault) = Unit {0}
+IsPlayStop stop.NoMemory = ⊥
+IsPlayStop stop.Usage = ⊥
+IsPlayStop (stop.Unsuitable why) = ⊥
+IsPlayStop stop.NotYet = ⊥
+
+-- a stop once words and lengths are good: a fault, a bad line or want of memory
 abbrev pub IsLate : Stop → Type 0
 IsLate (stop.ReadFault role) = Unit {0}
 IsLate (stop.WriteFault role) = Unit {0}

@@ -3,7 +3,7 @@
 ghost use Rattle.std.specs.Prelude.{◌≡◌, ◌≤◌, ◌+◌, ◌++◌, [], length, decimal, codes};
 ghost use Rattle.bm_host.specs.declared.Role.TheVariants.{Console};
 ghost use Rattle.bmcast.specs.Status.{IsTold, OnlyConsole};
-ghost use Rattle.bmcast.specs.Streams.{KeepsFilesBut};
+ghost use Rattle.bm_host.specs.Outside.{SameElsewhere};
 ghost use Rattle.bmcast.specs.StatusLine.{fault_name, role_name, status_line, status_text, why_name};
 
 use crate::{Status, Why};
@@ -20,7 +20,7 @@ const MOST: usize = 128;
 pub fn tell<H: Host>(host: &mut H, status: Status)
     ensures console { OnlyConsole (H.outside host.old) (H.outside host.new) }
     ensures told { IsTold (status_line status) (H.outside host.old) (H.outside host.new) }
-    ensures files { KeepsFilesBut Console (H.outside host.old) (H.outside host.new) }
+    ensures elsewhere { SameElsewhere Console (H.outside host.old) (H.outside host.new) }
 {
     let mut line = ArrayVec::new();
     push_line(&mut line, status);

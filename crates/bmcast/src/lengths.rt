@@ -5,9 +5,10 @@ ghost use Rattle.bm_host.specs.Outside.{Outside, Counted, IfTold, Reads};
 ghost use Rattle.fill_bitmap.specs.Area.{IsBlock};
 ghost use Rattle.bm_host.specs.declared.Role.TheVariants.{Image, Disk};
 ghost use Rattle.bmcast.specs.Lengths.{CanRun, IfLengths, StopsFor, why_of};
-ghost use Rattle.bmcast.specs.Status.{SameConsole};
+ghost use Rattle.bmcast.specs.Kept.{IsUnopened, LeavesFiles};
+ghost use Rattle.bmcast.specs.Status.{SameConsole, status_after};
 ghost use Rattle.bmcast.specs.Stop.{Ended, IsEarly};
-ghost use Rattle.bmcast.specs.Streams.{KeepsAllFiles};
+ghost use Rattle.bmcast.specs.Streams.{KeepsAllFiles, KeepsFilesBut};
 
 use crate::Why;
 use crate::stop::Stop;
@@ -20,6 +21,8 @@ pub fn measure<H: Host>(host: &mut H, options: &Options<'_>) -> Result<u64, Stop
     requires { IsBlock options.now.block }
     ensures counts { Ended result (H.outside host.old) (H.outside host.new) }
     ensures files { OnOk result (KeepsAllFiles (H.outside host.old) (H.outside host.new)) }
+    ensures left { LeavesFiles (status_after result) (H.outside host.old) (H.outside host.new) }
+    ensures unopened { IsUnopened (H.outside host.old) (H.outside host.new) }
     ensures console { SameConsole (H.outside host.old) (H.outside host.new) }
     ensures disk { IfOk result (λ n. IfTold ((H.outside host.old).told Disk) (λ bytes. length bytes ≡ n)) }
     ensures whole { IfOk result (λ n. n % 512 ≡ 0) }
@@ -72,7 +75,7 @@ fn why_of(why: Unsuitable) -> Why
 fn image_length<H: Host>(host: &mut H, name: &str) -> Result<u64, Failed>
     ensures counts { Counted Reads Image (H.outside host.old) (H.outside host.new) result }
     ensures files { OnOk result (KeepsAllFiles (H.outside host.old) (H.outside host.new)) }
-    ensures console { SameConsole (H.outside host.old) (H.outside host.new) }
+    ensures others { KeepsFilesBut Image (H.outside host.old) (H.outside host.new) }
     ensures length { IfOk result (λ n. IfTold ((H.outside host.old).told Image) (λ bytes. length bytes ≡ n)) }
 {
     host.begin(Role::Image, name)?;
@@ -83,7 +86,7 @@ fn image_length<H: Host>(host: &mut H, name: &str) -> Result<u64, Failed>
 fn disk_length<H: Host>(host: &mut H, name: &str) -> Result<u64, Failed>
     ensures counts { Counted Reads Disk (H.outside host.old) (H.outside host.new) result }
     ensures files { OnOk result (KeepsAllFiles (H.outside host.old) (H.outside host.new)) }
-    ensures console { SameConsole (H.outside host.old) (H.outside host.new) }
+    ensures others { KeepsFilesBut Disk (H.outside host.old) (H.outside host.new) }
     ensures length { IfOk result (λ n. IfTold ((H.outside host.old).told Disk) (λ bytes. length bytes ≡ n)) }
 {
     host.begin(Role::Disk, name)?;

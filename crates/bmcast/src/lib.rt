@@ -16,14 +16,17 @@ mod run;
 mod stop;
 mod streams;
 
-ghost use Rattle.bmcast.specs.Run.{IsBadLine, IsDone};
-ghost use Rattle.std.specs.Prelude.{◌≡◌};
+ghost use Rattle.bmcast.specs.Run.{IsBadLine, IsDone, IsReady};
+ghost use Rattle.bmcast.specs.Kept.{IsUnopened, LeavesFiles};
+ghost use Rattle.bmcast.specs.Lengths.{CanRun};
+ghost use Rattle.bmcast.specs.Owed.{AnswersWhatIsOwed};
+ghost use Rattle.std.specs.Prelude.{◌≡◌, ◌⊎◌};
 ghost use Rattle.run_words.specs.Pairs.{texts};
-ghost use Rattle.bmcast.specs.Status.{HasItsReason, OnBadLineStatus, UnlessDone};
+ghost use Rattle.bmcast.specs.Status.{Chooses, HasItsReason, OnBadLineStatus, OnNoMemory, UnlessDone};
 ghost use Rattle.bmcast.specs.Status.{HasItsCause, OnDone, OnlyConsole, IsTold, exit_code, status_of};
 ghost use Rattle.bm_host.specs.declared.Role.TheVariants.{Console};
 ghost use Rattle.bmcast.specs.StatusLine.{status_line};
-ghost use Rattle.bmcast.specs.Streams.{KeepsFilesBut};
+ghost use Rattle.bm_host.specs.Outside.{SameElsewhere};
 
 use crate::console::tell;
 use crate::run::run;
@@ -85,6 +88,15 @@ pub fn bmcast<H: Host>(alloc: Global, words: &[String], host: &mut H) -> Status
     // Of words and lengths each status has its reason, and no other status has it.
     ensures reason { HasItsReason result (texts words.now) (H.outside host.old) }
 
+    // Where image, disk and schedule are told and no count rose, the answer is the one that they owe.
+    ensures owed { AnswersWhatIsOwed result (texts words.now) (H.outside host.old) (H.outside host.new) }
+
+    // Report and Out are opened only behind words and lengths that are good.
+    ensures opened { IsUnopened (H.outside host.old) (H.outside host.new)
+        ⊎ Chooses (texts words.now) (H.outside host.old) CanRun }
+    ensures files { LeavesFiles result (H.outside host.old) (H.outside host.new) }
+    ensures memory { OnNoMemory result (IsReady (H.outside host.new)) }
+
     ensures told { UnlessDone result
         (IsTold (status_line result) (H.outside host.old) (H.outside host.new)) }
     ensures cause { HasItsCause result (H.outside host.old) (H.outside host.new) }
@@ -100,7 +112,7 @@ fn report_stop<H: Host>(host: &mut H, stop: Stop) -> Status
     ensures status { result ≡ status_of stop }
     ensures counts { OnlyConsole (H.outside host.old) (H.outside host.new) }
     ensures told { IsTold (status_line result) (H.outside host.old) (H.outside host.new) }
-    ensures files { KeepsFilesBut Console (H.outside host.old) (H.outside host.new) }
+    ensures elsewhere { SameElsewhere Console (H.outside host.old) (H.outside host.new) }
 {
     let status = stop.status();
     tell(host, status);

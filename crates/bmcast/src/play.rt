@@ -12,7 +12,7 @@ ghost use Rattle.schedule_text.specs.BadLine.{FailsAt, LineFails};
 ghost use Rattle.plain_run.specs.Entry.{entry_of, items_text};
 ghost use Rattle.plain_run.specs.Run.{DirectEvent};
 ghost use Rattle.bmcast.specs.BadLine.{HasFailed};
-ghost use Rattle.bmcast.specs.Stop.{Ended, IsFault, IsLate, OnBadLine, UnlessFault};
+ghost use Rattle.bmcast.specs.Stop.{Ended, IsFault, IsPlayStop, OnBadLine, UnlessFault};
 ghost use Rattle.bmcast.specs.Streams.{unread, Said, KeepsFiles};
 ghost use Rattle.bmcast.specs.Played.{HasPlayed, HasDone, HasEnded, Progresses};
 
@@ -39,7 +39,7 @@ fn next_event<H: Host>(
     number: u32,
 ) -> Result<Event, Stop>
     requires { number ≤ LAST_LINE }
-    ensures late { IfErr result IsLate }
+    ensures play { IfErr result IsPlayStop }
     ensures counts { Ended result (H.outside host.old) (H.outside host.new) }
     ensures files { KeepsFiles (H.outside host.old) (H.outside host.new) }
     ensures said { UnlessFault result ((text : List ℕ) → Said streams.old (H.outside host.old) text
@@ -65,7 +65,7 @@ fn next_event<H: Host>(
 // What a line says. The last line that can have a number must be the schedule's end.
 #[tactic(auto, using(crate::proofs::BadLines::said_laws))]
 fn said_by(line: &Line, number: u32) -> Result<Event, Stop>
-    ensures late { IfErr result IsLate }
+    ensures play { IfErr result IsPlayStop }
     ensures counts { (o : Outside) → Ended result o o }
     ensures said { IfOk result (λ event. Says line.now.items event) }
     ensures in_range { IfOk result IsInRange }
@@ -116,7 +116,7 @@ fn take_line<H: Host>(
     number: u32,
 ) -> Result<Event, Stop>
     requires { number ≤ LAST_LINE }
-    ensures late { IfErr result IsLate }
+    ensures play { IfErr result IsPlayStop }
     ensures counts { Ended result (H.outside host.old) (H.outside host.new) }
     ensures files { KeepsFiles (H.outside host.old) (H.outside host.new) }
     ensures done { IfOk result (λ event. (start : Plain) (n : ℕ) → n + 1 ≡ number
@@ -138,7 +138,7 @@ fn take_line<H: Host>(
 // Nothing follows the line `end`, which has this number.
 fn expect_end<H: Host>(host: &mut H, streams: &mut Streams, number: u32) -> Result<(), Stop>
     requires { number ≤ LAST_LINE }
-    ensures late { IfErr result IsLate }
+    ensures play { IfErr result IsPlayStop }
     ensures counts { Ended result (H.outside host.old) (H.outside host.new) }
     ensures files { KeepsFiles (H.outside host.old) (H.outside host.new) }
     ensures said { UnlessFault result ((text : List ℕ) → Said streams.old (H.outside host.old) text
@@ -166,7 +166,7 @@ fn play_line<H: Host>(
     number: u32,
 ) -> Result<Progress, Stop>
     requires { number ≤ LAST_LINE }
-    ensures late { IfErr result IsLate }
+    ensures play { IfErr result IsPlayStop }
     ensures counts { Ended result (H.outside host.old) (H.outside host.new) }
     ensures files { KeepsFiles (H.outside host.old) (H.outside host.new) }
     ensures progress { IfOk result (λ progress. (start : Plain) (n : ℕ) → n + 1 ≡ number
@@ -193,7 +193,7 @@ fn play_line<H: Host>(
 
 /// Reads, does and reports the events of the schedule to its end, and answers the number of its line `end`.
 pub fn play<H: Host>(host: &mut H, streams: &mut Streams, drive: &mut Drive) -> Result<u32, Stop>
-    ensures late { IfErr result IsLate }
+    ensures play { IfErr result IsPlayStop }
     ensures counts { Ended result (H.outside host.old) (H.outside host.new) }
     ensures files { KeepsFiles (H.outside host.old) (H.outside host.new) }
     ensures ended { IfOk result (λ number. (start : Plain)

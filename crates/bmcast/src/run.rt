@@ -1,17 +1,19 @@
 //! A whole run, step by step: words, lengths, files, disk, events, report and out.
 
-ghost use Rattle.std.specs.Prelude.{◌≡◌, ◌/◌, ◌*◌, ◌%◌, ℕ, List, [], length, IfErr, OnOk, IfOk};
+ghost use Rattle.std.specs.Prelude.{◌≡◌, ◌/◌, ◌*◌, ◌%◌, ◌⊎◌, ℕ, List, [], length, IfErr, OnOk, IfOk};
 ghost use Rattle.bm_host.specs.Outside.{IfTold};
 ghost use Rattle.bm_host.specs.declared.Role.TheVariants.{Disk, Out};
 ghost use Rattle.plain_drive.specs.Plain.{plain, Plain};
 ghost use Rattle.drive_model.specs.Drive.{device_of};
 ghost use Rattle.run_words.specs.Pairs.{texts};
-ghost use Rattle.bmcast.specs.Stop.{Ended, IsFault, IsLate, OnBadLine};
+ghost use Rattle.bmcast.specs.Kept.{IsUnopened, LeavesFiles};
+ghost use Rattle.bmcast.specs.Lengths.{CanRun};
+ghost use Rattle.bmcast.specs.Stop.{Ended, IsFault, IsLate, IsPlayStop, OnBadLine};
 ghost use Rattle.bmcast.specs.BadLine.{HasFailed};
-ghost use Rattle.bmcast.specs.Status.{HasItsReason, SameConsole, status_after};
+ghost use Rattle.bmcast.specs.Status.{Chooses, HasItsReason, OnNoMemory, SameConsole, status_after};
 ghost use Rattle.bmcast.specs.Streams.{KeepsFiles};
 ghost use Rattle.bmcast.specs.Played.{HasPlayed, HasEnded};
-ghost use Rattle.bmcast.specs.Run.{IsBegun, IsReady, IsReported, IsStopped, IsDone, IsBadLine};
+ghost use Rattle.bmcast.specs.Run.{IsReady, IsReported, IsStopped, IsDone, IsBadLine};
 
 use crate::disk::{load, write_out};
 use crate::lengths::measure;
@@ -31,6 +33,10 @@ pub fn run<H: Host>(alloc: Global, words: &[String], host: &mut H) -> Result<(),
     ensures done { OnOk result (IsDone (H.outside host.old) (H.outside host.new)) }
     ensures bad { OnBadLine result (IsBadLine (H.outside host.old) (H.outside host.new)) }
     ensures reason { HasItsReason (status_after result) (texts words.now) (H.outside host.old) }
+    ensures files { LeavesFiles (status_after result) (H.outside host.old) (H.outside host.new) }
+    ensures opened { IsUnopened (H.outside host.old) (H.outside host.new)
+        ⊎ Chooses (texts words.now) (H.outside host.old) CanRun }
+    ensures memory { OnNoMemory (status_after result) (IsReady (H.outside host.new)) }
     ensures console { SameConsole (H.outside host.old) (H.outside host.new) }
 {
     let Some(options) = read_options(words) else {
@@ -55,6 +61,8 @@ fn run_events<H: Host>(
     ensures late { IfErr result IsLate }
     ensures done { OnOk result (IsDone (H.outside host.old) (H.outside host.new)) }
     ensures bad { OnBadLine result (IsBadLine (H.outside host.old) (H.outside host.new)) }
+    ensures files { LeavesFiles (status_after result) (H.outside host.old) (H.outside host.new) }
+    ensures memory { OnNoMemory (status_after result) (IsReady (H.outside host.new)) }
     ensures console { SameConsole (H.outside host.old) (H.outside host.new) }
 {
     begin_files(host, options)?;
@@ -71,7 +79,8 @@ fn run_events<H: Host>(
 fn begin_files<H: Host>(host: &mut H, options: &Options<'_>) -> Result<(), Stop>
     ensures counts { Ended result (H.outside host.old) (H.outside host.new) }
     ensures fault { IfErr result IsFault }
-    ensures begun { OnOk result (IsBegun (H.outside host.old) (H.outside host.new)) }
+    ensures ready { OnOk result (IsReady (H.outside host.new)) }
+    ensures files { LeavesFiles (status_after result) (H.outside host.old) (H.outside host.new) }
     ensures console { SameConsole (H.outside host.old) (H.outside host.new) }
 {
     let Ok(()) = host.begin(Role::Schedule, options.schedule) else {
@@ -91,7 +100,7 @@ fn report_run<H: Host>(host: &mut H, drive: &mut Drive) -> Result<(), Stop>
     requires { IsReady (H.outside host.old) }
     ensures counts { Ended result (H.outside host.old) (H.outside host.new) }
     ensures files { KeepsFiles (H.outside host.old) (H.outside host.new) }
-    ensures late { IfErr result IsLate }
+    ensures play { IfErr result IsPlayStop }
     ensures reported { OnOk result (IsReported (H.outside host.old) (H.outside host.new)
         (plain (device_of drive.old) []) (plain (device_of drive.new) [])) }
     ensures bad { OnBadLine result (IsStopped (H.outside host.old) (H.outside host.new)
@@ -111,7 +120,7 @@ fn report_run<H: Host>(host: &mut H, drive: &mut Drive) -> Result<(), Stop>
 fn play_to_end<H: Host>(host: &mut H, streams: &mut Streams, drive: &mut Drive) -> Result<u32, Stop>
     ensures counts { Ended result (H.outside host.old) (H.outside host.new) }
     ensures files { KeepsFiles (H.outside host.old) (H.outside host.new) }
-    ensures late { IfErr result IsLate }
+    ensures play { IfErr result IsPlayStop }
     ensures ended { IfOk result (λ number. (start : Plain)
         → HasPlayed start streams.old (H.outside host.old) (plain (device_of drive.old) []) 0
         → HasEnded start streams.new (H.outside host.new) (plain (device_of drive.new) []) number) }

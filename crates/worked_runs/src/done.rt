@@ -1,6 +1,6 @@
 //! Runs that are done: the report, and out.
 
-use crate::hosts::{DISK, joined, run_schedule};
+use crate::hosts::{DISK, joined, run_schedule, run_words};
 use bm_host::{NoMemory, Role};
 use bmcast::Status;
 use std::alloc::Global;
@@ -31,6 +31,26 @@ fn short_schedules_and_their_reports(rt: HostRuntime) -> Result<(), Fail> {
             "at {report:?}"
         );
     }
+    Ok(())
+}
+
+// The words of a run, each option as one word. A file's name may have a `=` of its own.
+#[test]
+fn options_as_one_word_each(rt: HostRuntime) -> Result<(), Fail> {
+    let words = [
+        "run",
+        "--id=7",
+        "--out=o=1",
+        "--report=report",
+        "--mode=resume",
+        "--image=image",
+        "--schedule=schedule",
+        "--disk=disk",
+    ];
+    let (status, host) = run_words(rt.alloc(), &words, &[])?;
+    assert_eq!(rt; status, Status::Done);
+    assert_eq!(rt; host.contents(Role::Report), b"end 1\n".as_slice());
+    assert_eq!(rt; host.contents(Role::Out), DISK.as_slice());
     Ok(())
 }
 

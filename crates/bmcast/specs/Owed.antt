@@ -1,0 +1,47 @@
+-- The answer that words, lengths and schedule owe, where the host tells them and nothing fails.
+use Rattle.std.specs.Prelude.{ℕ, ◌≡◌, ◌⊎◌, List, length, Option, Some, None}
+use Rattle.bm_host.specs.declared.Role.{Role}
+use Rattle.bm_host.specs.declared.Role.TheVariants.{Image, Disk, Schedule}
+use Rattle.bm_host.specs.Outside.{Outside, Rose}
+use Rattle.run_words.specs.Options.{Choice, Says}
+use Rattle.schedule_text.specs.declared.Event.{Event}
+use Rattle.schedule_text.specs.Schedule.{IsSchedule}
+use Rattle.schedule_text.specs.BadLine.{FailsAt}
+use Rattle.bmcast.specs.Lengths.{CanRun, IsNotYet, IsUnsuitable}
+use Rattle.bmcast.specs.declared.Status.{Status}
+use Rattle.bmcast.specs.declared.Status.TheVariants as status
+
+-- a role is told, and its bytes are so
+abbrev pub Tells : Option (List ℕ) → (List ℕ → Type 0) → Type 0
+Tells None P = ⊥
+Tells (Some bytes) P = P bytes
+
+-- the words choose a run, image and disk are told, and the block with their lengths is so
+pub record Offers (words : List (List ℕ)) (o : Outside) (P : ℕ → ℕ → ℕ → Type 0) : Type 0 where
+  pub choice : Choice
+  pub says : Says words choice
+  pub lengths : Tells (o.told Image) (λ image. Tells (o.told Disk) (λ disk. P choice.sizes.block (length image) (length disk)))
+
+-- the answer that is owed: the first refusal of words, lengths and schedule, or else Done; a fault and want of
+-- memory never are (own)
+abbrev pub IsOwed : Status → List (List ℕ) → Outside → Type 0
+IsOwed status.Usage words o = (choice : Choice) → ¬ Says words choice
+IsOwed (status.Unsuitable reason) words o = Offers words o (IsUnsuitable reason)
+IsOwed status.NotYet words o = Offers words o IsNotYet
+IsOwed (status.BadLine number fault) words o = Offers words o CanRun
+    × Tells (o.told Schedule) (λ text. (events : List Event) × FailsAt text events number fault)
+IsOwed status.Done words o = Offers words o CanRun
+    × Tells (o.told Schedule) (λ text. (events : List Event) × IsSchedule text events)
+IsOwed (status.ReadFault role) words o = ⊥
+IsOwed (status.WriteFault role) words o = ⊥
+IsOwed status.NoMemory words o = ⊥
+
+-- no count of faults rose
+pub record NoCountRose (old new : Outside) : Type 0 where
+  pub reads : (role : Role) → ¬ Rose (old.read_faults role) (new.read_faults role)
+  pub writes : (role : Role) → ¬ Rose (old.write_faults role) (new.write_faults role)
+
+-- where no count rose the answer is the one that is owed, or want of memory
+abbrev pub AnswersWhatIsOwed : Status → List (List ℕ) → Outside → Outside → Type 0
+AnswersWhatIsOwed answer words old new = (owed : Status) → IsOwed owed words old → NoCountRose old new
+    → (answer ≡ owed) ⊎ (answer ≡ status.NoMemory)
