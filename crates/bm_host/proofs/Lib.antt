@@ -1,3 +1,4 @@
 pub mod NamedLaws
 pub mod OutsideLaws
+pub mod QuietLaws
 pub mod WrittenLaws

@@ -1,7 +1,7 @@
 -- How what several calls did to the outside makes one: for the proofs of those who call a host.
-use Rattle.std.proofs.Common.{◌≡◌, ◌≢◌, ◌⊎◌, refl, ◌∙◌, arith}
+use Rattle.std.proofs.Common.{◌≡◌, ◌≢◌, ◌⊎◌, refl, ◌∙◌, arith, ℕ, ◌≤◌}
 use Rattle.bm_host.specs.declared.Role.{Role}
-use Rattle.bm_host.specs.Outside.{Outside, Side, Reads, Writes, SameCounts, OnlyRose, SameBytes}
+use Rattle.bm_host.specs.Outside.{Outside, Side, Reads, Writes, SameCounts, OnlyRose, Rose, SameBytes, LAST_COUNT}
 
 -- two roles are one or they are not
 pub same_role : (r s : Role) → (r ≡ s) ⊎ (r ≢ s)
@@ -11,6 +11,10 @@ same_role r s = grind arith
 
 pub same_counts_refl : (o : Outside) → SameCounts o o
 same_counts_refl o = record { reads = λ r. refl; writes = λ r. refl }
+
+-- a count that stayed the same didn't rise, unless it stands at its last value
+pub rose_in_place : (n : ℕ) → Rose n n → LAST_COUNT ≤ n
+rose_in_place n rose = let more = rose.more in omega arith
 
 pub same_counts_trans : (a b c : Outside) → SameCounts a b → SameCounts b c → SameCounts a c
 same_counts_trans a b c p q = record {

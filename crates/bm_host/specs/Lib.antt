@@ -2,4 +2,6 @@ pub mod ByRole
 pub mod MemoryHost
 pub mod NamedFiles
 pub mod Outside
+pub mod QuietFile
+pub mod QuietHost
 pub mod Tally

@@ -1,7 +1,8 @@
 //! The host of real files.
 
-ghost use Rattle.std.specs.Prelude.{◌≡◌, ◌≤◌, ◌+◌, length, IfOk};
+ghost use Rattle.std.specs.Prelude.{◌≡◌, ◌≤◌, ◌+◌, length, IfOk, None};
 ghost use Rattle.bm_host.specs.Tally.{counted, IsFresh};
+ghost use Rattle.bm_host.specs.declared.Role.{Role};
 
 use crate::by_role::ByRole;
 use crate::role_file::{Identity, RoleFile};
@@ -38,7 +39,9 @@ pub struct FileHost<'a, R: Files + Print> {
 impl<R: Files + Print> FileHost<'_, R> {
     /// A host with no role begun.
     pub fn new(rt: &R) -> FileHost<'_, R>
-        ensures { IsFresh (⟦<FileHost<'static, R> as Host>⟧.outside result) }
+        ensures untold { (role : Role) →
+            (⟦<FileHost<'static, R> as Host>⟧.outside result).told role ≡ None }
+        ensures fresh { IsFresh (⟦<FileHost<'static, R> as Host>⟧.outside result) }
     {
         let files = ByRole {
             image: None,

@@ -1,10 +1,12 @@
 //! The outside of the program: the files that it reads and writes by their role, and what is known of them.
 //!
-//! Start with `Host`, the trait that everything above reaches files by. `FileHost` is the host of real files, and
-//! `MemoryHost` one whose files are in memory and whose calls fail by their number.
+//! Start with `Host`, the trait that everything above reaches files by. `FileHost` is the host of real files,
+//! `MemoryHost` one whose files are in memory and whose calls fail by their number, and `QuietHost` one that never
+//! fails.
 //!
-//! `specs/Outside.antt` says what a host holds and what a call may change, and `specs/MemoryHost.antt` when a call of
-//! a `MemoryHost` fails. `proofs/OutsideLaws.antt` has the laws for those who make several calls.
+//! `specs/Outside.antt` says what a host holds and what a call may change, `specs/MemoryHost.antt` when a call of a
+//! `MemoryHost` fails, and `specs/QuietHost.antt` what a `QuietHost` tells. `proofs/OutsideLaws.antt` has the laws for
+//! those who make several calls.
 
 #![tactic(auto)]
 
@@ -15,12 +17,16 @@ mod memory_file;
 mod memory_host;
 mod named_files;
 mod plan;
+mod quiet_file;
+mod quiet_host;
+mod reading;
 mod role_file;
 mod tally;
 
 pub use file_host::FileHost;
 pub use host::Host;
 pub use memory_host::MemoryHost;
+pub use quiet_host::{QuietHost, no_count_of_a_quiet_host_rises};
 pub use std::alloc::AllocError as NoMemory;
 
 /// What a file is for.

@@ -2,6 +2,7 @@
 
 ghost use Rattle.std.specs.Prelude.{◌≡◌, ◌+◌, ◌-◌, ◌≤◌, ◌<◌, ◌↔◌, ◌++◌, [], length, take, drop, max, IsOk, OnOk, OnErr, IfOk, vec_len, vec_capacity};
 
+use crate::reading::{begin_bytes, copy_at, copy_next};
 use crate::{Failed, NoMemory, Role};
 
 /// The bytes that one role holds, with the room that its writes may need.
@@ -45,10 +46,7 @@ impl MemoryFile {
         ensures limit { self.new.limit ≡ self.old.limit }
     {
         self.given = 0;
-        match role {
-            Role::Report | Role::Out => self.bytes.clear(),
-            Role::Image | Role::Disk | Role::Schedule | Role::Console => {}
-        }
+        begin_bytes(role, &mut self.bytes);
     }
 
     /// Fills all of `into` with the bytes from `place` on.
@@ -56,8 +54,7 @@ impl MemoryFile {
         requires { place + length into.old ≤ length self.now.bytes.items }
         ensures { into.new ≡ bytes_at place (length into.old) self.now.bytes.items }
     {
-        let start = place as usize;
-        into.copy_from_slice(&self.bytes[start..start + into.len()]);
+        copy_at(&self.bytes, place, into);
     }
 
     /// Fills the front of `into` with the next bytes, and says how many these are.
@@ -69,9 +66,7 @@ impl MemoryFile {
         ensures gives { Gives self.old.bytes.items self.old.given
             (length into.old) result into.new }
     {
-        let rest = &self.bytes[self.given..];
-        let count = rest.len().min(into.len());
-        into[..count].copy_from_slice(&rest[..count]);
+        let count = copy_next(&self.bytes, self.given, into);
         self.given += count;
         count
     }

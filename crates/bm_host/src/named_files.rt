@@ -1,7 +1,7 @@
 //! The files that a host in memory starts with.
 
 ghost use Rattle.std.specs.Prelude.{◌≡◌, IfOk, length};
-ghost use Rattle.bm_host.specs.ByRole.{value_of};
+ghost use Rattle.bm_host.specs.ByRole.{value_of, with_value};
 ghost use Rattle.bm_host.specs.NamedFiles.{files_named, limit_at_start};
 ghost use Rattle.bm_host.specs.declared.Role.{Role};
 
@@ -24,9 +24,16 @@ pub fn named_files(alloc: Global, files: Vec<(Role, Vec<u8>)>) -> ByRole<Vec<u8>
         console: Vec::new(alloc),
     };
     for (role, bytes) in files {
-        *named.get_mut(role) = bytes;
+        name_file(&mut named, role, bytes);
     }
     named
+}
+
+/// The role has this file in place of the one before it.
+fn name_file(named: &mut ByRole<Vec<u8>>, role: Role, bytes: Vec<u8>)
+    ensures { named.new ≡ with_value named.old role bytes }
+{
+    *named.get_mut(role) = bytes;
 }
 
 /// These files, each with the room for what a write may leave in it.

@@ -63,13 +63,17 @@ impl<F: Read + Write + Seek + OpenFile + Drop> RoleFile<F> {
     }
 
     /// The number of its bytes. A pipe has none, and that is an error.
-    pub fn length(&mut self) -> io::Result<u64> {
+    pub fn length(&mut self) -> io::Result<u64>
+        ensures next { self.new.next ≡ self.old.next }
+    {
         self.stands = None;
         self.file.seek(SeekFrom::End(0))
     }
 
     /// Fills all of `into` from `place` on. A place or an end past the file's end is an error.
-    pub fn read_at(&mut self, place: u64, into: &mut [u8]) -> io::Result<()> {
+    pub fn read_at(&mut self, place: u64, into: &mut [u8]) -> io::Result<()>
+        ensures next { self.new.next ≡ self.old.next }
+    {
         if into.is_empty() && self.length()? < place {
             return Err(io::Error::from(ErrorKind::UnexpectedEof));
         }
@@ -93,7 +97,9 @@ impl<F: Read + Write + Seek + OpenFile + Drop> RoleFile<F> {
     }
 
     /// Writes all of `from` at `place`. The system fills what lies between the old end and `place` with zeros.
-    pub fn write_at(&mut self, place: u64, from: &[u8]) -> io::Result<()> {
+    pub fn write_at(&mut self, place: u64, from: &[u8]) -> io::Result<()>
+        ensures next { self.new.next ≡ self.old.next }
+    {
         if from.is_empty() && self.length()? < place {
             self.file.set_len(place)?;
         }
@@ -104,7 +110,9 @@ impl<F: Read + Write + Seek + OpenFile + Drop> RoleFile<F> {
     }
 
     /// Writes all of `from` at the end.
-    pub fn write_next(&mut self, from: &[u8]) -> io::Result<()> {
+    pub fn write_next(&mut self, from: &[u8]) -> io::Result<()>
+        ensures next { self.new.next ≡ self.old.next }
+    {
         self.go_to(SeekFrom::End(0))?;
         self.file.write_all(from)?;
         self.stands = Some(SeekFrom::End(0));
@@ -141,3 +149,6 @@ fn read_some<F: Read>(file: &mut F, into: &mut [u8]) -> io::Result<usize>
     }
     Err(io::Error::from(ErrorKind::Interrupted))
 }
+
+#[cfg(test)]
+mod tests;

@@ -76,9 +76,7 @@ impl Tally {
         ensures looked { self.new.looked ≡ looked_at role self.old.looked bytes }
         ensures faults { self.new.faults ≡ self.old.faults }
     {
-        if role == Role::Image {
-            self.looked = self.looked.saturating_add(bytes as u64);
-        }
+        self.looked = looked_after(self.looked, role, bytes);
     }
 
     /// Counts a fault of the role where a read of it failed.
@@ -110,5 +108,15 @@ impl Tally {
                 Err(Failed)
             }
         }
+    }
+}
+
+/// The bytes of Image that were asked for, once so many more of the role are.
+pub fn looked_after(looked: u64, role: Role, bytes: usize) -> u64
+    ensures { result ≡ looked_at role looked bytes }
+{
+    match role {
+        Role::Image => looked.saturating_add(bytes as u64),
+        Role::Disk | Role::Schedule | Role::Report | Role::Out | Role::Console => looked,
     }
 }

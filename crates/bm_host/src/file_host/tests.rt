@@ -1,4 +1,4 @@
-use super::FileHost;
+use super::{FileHost, ROLES};
 use crate::{Failed, Host, Role};
 use std::fs;
 use std::test::Fail;
@@ -6,11 +6,11 @@ use std::test::Fail;
 // Reads in order go on where the last one stopped, whatever is read at a place between them.
 #[test]
 fn reads_of_a_file(rt: HostRuntime) -> Result<(), Fail> {
-    fs::write(&rt, "host_read", b"0123456789")?;
+    fs::create_dir(&rt, "host_reads")?;
+    fs::write(&rt, "host_reads/disk", b"0123456789")?;
     let mut host = FileHost::new(&rt);
     let mut into = [0; 4];
-    assert_eq!(rt; host.length(Role::Disk), Err(Failed), "not begun");
-    assert_eq!(rt; host.begin(Role::Disk, "host_read"), Ok(()));
+    assert_eq!(rt; host.begin(Role::Disk, "host_reads/disk"), Ok(()));
     assert_eq!(rt; host.length(Role::Disk), Ok(10));
     assert_eq!(rt; host.read_next(Role::Disk, &mut into), Ok(4));
     assert_eq!(rt; into, *b"0123");
@@ -20,32 +20,60 @@ fn reads_of_a_file(rt: HostRuntime) -> Result<(), Fail> {
     assert_eq!(rt; into, *b"4567");
     assert_eq!(rt; host.read_next(Role::Disk, &mut into), Ok(2));
     assert_eq!(rt; host.read_next(Role::Disk, &mut into), Ok(0));
-    assert_eq!(rt;
-        host.read_at(Role::Disk, 7, &mut into),
-        Err(Failed),
-        "an end inside"
-    );
-    assert_eq!(rt;
-        host.read_at(Role::Disk, 11, &mut []),
-        Err(Failed),
-        "a place past the end"
-    );
-    assert_eq!(rt; host.read_at(Role::Disk, 10, &mut []), Ok(()));
+    assert_eq!(rt; host.begin(Role::Disk, "host_reads/disk"), Ok(()));
+    assert_eq!(rt; host.read_next(Role::Disk, &mut into), Ok(4));
+    assert_eq!(rt; into, *b"0123");
     assert_eq!(rt;
         host.write_at(Role::Disk, 0, b"x"),
         Err(Failed),
         "opened for reading alone"
     );
-    fs::remove_file(&rt, "host_read")?;
+    fs::remove_file(&rt, "host_reads/disk")?;
+    fs::remove_dir(&rt, "host_reads")?;
+    Ok(())
+}
+
+// A place and a number of bytes to be read of a file of 10: the read fails where they end past the file's end. After
+// each, reads in order still start at the file's start.
+#[test]
+fn reads_past_the_end(rt: HostRuntime) -> Result<(), Fail> {
+    let cases = [
+        (0, 4, Ok(())),
+        (6, 4, Ok(())),
+        (10, 0, Ok(())),
+        (7, 4, Err(Failed)),
+        (9, 2, Err(Failed)),
+        (10, 1, Err(Failed)),
+        (11, 0, Err(Failed)),
+        (u64::MAX, 4, Err(Failed)),
+    ];
+    fs::create_dir(&rt, "host_ends")?;
+    fs::write(&rt, "host_ends/image", b"0123456789")?;
+    for (place, count, answer) in cases {
+        let mut host = FileHost::new(&rt);
+        let mut into = [0; 4];
+        assert_eq!(rt; host.begin(Role::Image, "host_ends/image"), Ok(()));
+        assert!(rt; count <= into.len());
+        assert_eq!(rt;
+            host.read_at(Role::Image, place, &mut into[..count]),
+            answer,
+            "{count} bytes at {place}"
+        );
+        assert_eq!(rt; host.read_next(Role::Image, &mut into), Ok(4));
+        assert_eq!(rt; into, *b"0123", "after {count} bytes at {place}");
+    }
+    fs::remove_file(&rt, "host_ends/image")?;
+    fs::remove_dir(&rt, "host_ends")?;
     Ok(())
 }
 
 // Out is emptied first; zeros come between its end and a place; Report is made where it is missing.
 #[test]
 fn writes_of_files(rt: HostRuntime) -> Result<(), Fail> {
-    fs::write(&rt, "host_out", b"what was here before")?;
+    fs::create_dir(&rt, "host_writes")?;
+    fs::write(&rt, "host_writes/out", b"what was here before")?;
     let mut host = FileHost::new(&rt);
-    assert_eq!(rt; host.begin(Role::Out, "host_out"), Ok(()));
+    assert_eq!(rt; host.begin(Role::Out, "host_writes/out"), Ok(()));
     assert_eq!(rt; host.write_at(Role::Out, 2, b"ab"), Ok(()));
     assert_eq!(rt; host.write_next(Role::Out, b"cd"), Ok(()));
     assert_eq!(rt; host.write_at(Role::Out, 3, b"B"), Ok(()));
@@ -54,30 +82,113 @@ fn writes_of_files(rt: HostRuntime) -> Result<(), Fail> {
     let mut into = [1; 9];
     assert_eq!(rt; host.read_at(Role::Out, 0, &mut into), Ok(()));
     assert_eq!(rt; into, *b"\0\0aBcde\0\0");
-    assert_eq!(rt; host.begin(Role::Report, "host_report"), Ok(()));
+    assert_eq!(rt; host.begin(Role::Report, "host_writes/report"), Ok(()));
     assert_eq!(rt; host.write_next(Role::Report, b"line\n"), Ok(()));
-    assert_eq!(rt; fs::metadata(&rt, "host_report")?.len(), 5);
-    fs::remove_file(&rt, "host_out")?;
-    fs::remove_file(&rt, "host_report")?;
+    assert_eq!(rt; fs::metadata(&rt, "host_writes/report")?.len(), 5);
+    fs::remove_file(&rt, "host_writes/out")?;
+    fs::remove_file(&rt, "host_writes/report")?;
+    fs::remove_dir(&rt, "host_writes")?;
     Ok(())
 }
 
-// A second name for the disk is no Out, and the disk keeps its bytes; a folder is no file.
+// Before its begin no role can be read or written, but for Console, to which is only appended.
+#[test]
+fn calls_before_begin(rt: HostRuntime) {
+    let mut host = FileHost::new(&rt);
+    for role in ROLES {
+        assert_eq!(rt; host.length(role), Err(Failed), "{role:?}");
+        assert_eq!(rt; host.read_at(role, 0, &mut []), Err(Failed), "{role:?}");
+        assert_eq!(rt; host.read_next(role, &mut []), Err(Failed), "{role:?}");
+        assert_eq!(rt; host.write_at(role, 0, &[]), Err(Failed), "{role:?}");
+        let appended = match role {
+            Role::Console => Ok(()),
+            _ => Err(Failed),
+        };
+        assert_eq!(rt; host.write_next(role, &[]), appended, "{role:?}");
+    }
+}
+
+// A missing file for what is read, and for every role a file in a missing folder and a folder. The role is not begun
+// then, and nothing is made: the folder of the test is empty at the end.
 #[test]
 fn begins_that_fail(rt: HostRuntime) -> Result<(), Fail> {
-    fs::write(&rt, "host_disk", b"0123456789")?;
-    fs::hard_link(&rt, "host_disk", "host_disk_again")?;
-    fs::create_dir(&rt, "host_folder")?;
+    let cases = [
+        (Role::Image, "host_begins/missing"),
+        (Role::Disk, "host_begins/missing"),
+        (Role::Schedule, "host_begins/missing"),
+        (Role::Image, "host_begins/missing/file"),
+        (Role::Disk, "host_begins/missing/file"),
+        (Role::Schedule, "host_begins/missing/file"),
+        (Role::Report, "host_begins/missing/file"),
+        (Role::Out, "host_begins/missing/file"),
+        (Role::Image, "host_begins"),
+        (Role::Disk, "host_begins"),
+        (Role::Schedule, "host_begins"),
+        (Role::Report, "host_begins"),
+        (Role::Out, "host_begins"),
+    ];
+    fs::create_dir(&rt, "host_begins")?;
     let mut host = FileHost::new(&rt);
-    assert_eq!(rt; host.begin(Role::Disk, "host_disk"), Ok(()));
-    assert_eq!(rt; host.begin(Role::Out, "host_disk_again"), Err(Failed));
-    assert_eq!(rt; host.write_next(Role::Out, b"x"), Err(Failed), "not begun");
-    assert_eq!(rt; host.length(Role::Disk), Ok(10));
-    assert_eq!(rt; host.begin(Role::Out, "host_folder"), Err(Failed));
-    assert_eq!(rt; host.begin(Role::Image, "host_folder"), Err(Failed));
-    assert_eq!(rt; host.begin(Role::Image, "host_missing"), Err(Failed));
-    fs::remove_file(&rt, "host_disk")?;
-    fs::remove_file(&rt, "host_disk_again")?;
-    fs::remove_dir(&rt, "host_folder")?;
+    for (role, name) in cases {
+        assert_eq!(rt; host.begin(role, name), Err(Failed), "{role:?} at {name}");
+        assert_eq!(rt; host.length(role), Err(Failed), "{role:?} is not begun");
+    }
+    fs::remove_dir(&rt, "host_begins")?;
+    Ok(())
+}
+
+// A file that one role has begun is no Report and no Out, under whatever name, and keeps its 10 bytes.
+#[test]
+fn second_names_of_a_file(rt: HostRuntime) -> Result<(), Fail> {
+    let cases = [
+        (Role::Disk, Role::Out, "host_names/disk"),
+        (Role::Disk, Role::Out, "host_names/link"),
+        (Role::Disk, Role::Out, "host_names/../host_names/disk"),
+        (Role::Disk, Role::Report, "host_names/disk"),
+        (Role::Disk, Role::Report, "host_names/link"),
+        (Role::Image, Role::Out, "host_names/link"),
+        (Role::Schedule, Role::Report, "host_names/link"),
+    ];
+    fs::create_dir(&rt, "host_names")?;
+    fs::write(&rt, "host_names/disk", b"0123456789")?;
+    fs::hard_link(&rt, "host_names/disk", "host_names/link")?;
+    for (first, second, name) in cases {
+        let mut host = FileHost::new(&rt);
+        assert_eq!(rt; host.begin(first, "host_names/disk"), Ok(()));
+        assert_eq!(rt;
+            host.begin(second, name),
+            Err(Failed),
+            "{second:?} at {name}"
+        );
+        assert_eq!(rt;
+            host.write_next(second, b"x"),
+            Err(Failed),
+            "{second:?} is not begun"
+        );
+        assert_eq!(rt;
+            host.length(first),
+            Ok(10),
+            "{first:?} behind {second:?} at {name}"
+        );
+    }
+    fs::remove_file(&rt, "host_names/disk")?;
+    fs::remove_file(&rt, "host_names/link")?;
+    fs::remove_dir(&rt, "host_names")?;
+    Ok(())
+}
+
+// Out is no second Report, and Report keeps its line; begun again by its own name, Report is empty.
+#[test]
+fn report_as_out(rt: HostRuntime) -> Result<(), Fail> {
+    fs::create_dir(&rt, "host_report")?;
+    let mut host = FileHost::new(&rt);
+    assert_eq!(rt; host.begin(Role::Report, "host_report/report"), Ok(()));
+    assert_eq!(rt; host.write_next(Role::Report, b"line\n"), Ok(()));
+    assert_eq!(rt; host.begin(Role::Out, "host_report/report"), Err(Failed));
+    assert_eq!(rt; host.length(Role::Report), Ok(5));
+    assert_eq!(rt; host.begin(Role::Report, "host_report/report"), Ok(()));
+    assert_eq!(rt; host.length(Role::Report), Ok(0));
+    fs::remove_file(&rt, "host_report/report")?;
+    fs::remove_dir(&rt, "host_report")?;
     Ok(())
 }
