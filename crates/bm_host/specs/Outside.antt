@@ -45,6 +45,10 @@ pub record Rose (old new : ℕ) : Type 0 where
   pub kept : old ≤ new
   pub more : min (old + 1) LAST_COUNT ≤ new
 
+-- no count of faults rose
+abbrev pub NoCountRose : Outside → Outside → Type 0
+NoCountRose old new = (side : Side) (role : Role) → ¬ Rose (faults side old role) (faults side new role)
+
 -- no count of faults changed
 pub record SameCounts (old new : Outside) : Type 0 where
   pub reads : (role : Role) → new.read_faults role ≡ old.read_faults role

@@ -1,8 +1,7 @@
 //! The host that never fails.
 
-ghost use Rattle.bm_host.specs.Outside.{Rose, Side, faults};
+ghost use Rattle.bm_host.specs.Outside.{NoCountRose};
 ghost use Rattle.bm_host.specs.QuietHost.{outside_of};
-ghost use Rattle.bm_host.specs.declared.Role.{Role};
 
 use crate::by_role::ByRole;
 use crate::named_files::named_files;
@@ -25,8 +24,7 @@ pub struct QuietHost {
 
 /// Over a quiet host no count of faults can have risen, whatever was done between two moments.
 pub fn no_count_of_a_quiet_host_rises(before: &QuietHost, after: &QuietHost)
-    ensures { (side : Side) (role : Role) →
-        ¬ Rose (faults side (outside_of before.now) role) (faults side (outside_of after.now) role) }
+    ensures { NoCountRose (outside_of before.now) (outside_of after.now) }
 {}
 
 impl QuietHost {

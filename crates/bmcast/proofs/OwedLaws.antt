@@ -3,7 +3,7 @@ use Rattle.std.proofs.Common.{◌≡◌, ℕ, List, length, Option, Some, None, 
 use Rattle.std.specs.Option.{option_map}
 use Rattle.std.proofs.lemmas.Option.{none-some, same_Some}
 use Rattle.bm_host.specs.declared.Role.TheVariants.{Image, Disk, Schedule}
-use Rattle.bm_host.specs.Outside.{Outside, IfTold}
+use Rattle.bm_host.specs.Outside.{Outside, IfTold, Reads, Writes}
 use Rattle.run_words.specs.Options.{Choice}
 use Rattle.run_words.proofs.Once.{says_once}
 use Rattle.schedule_text.specs.declared.Event.{Event}
@@ -124,8 +124,8 @@ owed_answer words old new (status.Unsuitable why) reason bad done cause owed is 
 owed_answer words old new status.NotYet reason bad done cause owed is none = inl (not_yet_owed words old owed reason is)
 owed_answer words old new (status.BadLine n kind) reason bad done cause owed is none = inl (bad_line_found words old new n kind owed reason bad is)
 owed_answer words old new status.Done reason bad done cause owed is none = inl (whole_done words old new owed reason done is)
-owed_answer words old new (status.ReadFault role) reason bad done cause owed is none = absurd (none.reads role cause.rose)
-owed_answer words old new (status.WriteFault role) reason bad done cause owed is none = absurd (none.writes role cause.rose)
+owed_answer words old new (status.ReadFault role) reason bad done cause owed is none = absurd (none Reads role cause.rose)
+owed_answer words old new (status.WriteFault role) reason bad done cause owed is none = absurd (none Writes role cause.rose)
 owed_answer words old new status.NoMemory reason bad done cause owed is none = inr refl
 
 -- the same of a run that stopped

@@ -1,8 +1,7 @@
 -- The answer that words, lengths and schedule owe, where the host tells them and nothing fails.
 use Rattle.std.specs.Prelude.{ℕ, ◌≡◌, ◌⊎◌, List, length, Option, Some, None}
-use Rattle.bm_host.specs.declared.Role.{Role}
 use Rattle.bm_host.specs.declared.Role.TheVariants.{Image, Disk, Schedule}
-use Rattle.bm_host.specs.Outside.{Outside, Rose}
+use Rattle.bm_host.specs.Outside.{Outside, NoCountRose}
 use Rattle.run_words.specs.Options.{Choice, Says}
 use Rattle.schedule_text.specs.declared.Event.{Event}
 use Rattle.schedule_text.specs.Schedule.{IsSchedule}
@@ -35,11 +34,6 @@ IsOwed status.Done words o = Offers words o CanRun
 IsOwed (status.ReadFault role) words o = ⊥
 IsOwed (status.WriteFault role) words o = ⊥
 IsOwed status.NoMemory words o = ⊥
-
--- no count of faults rose
-pub record NoCountRose (old new : Outside) : Type 0 where
-  pub reads : (role : Role) → ¬ Rose (old.read_faults role) (new.read_faults role)
-  pub writes : (role : Role) → ¬ Rose (old.write_faults role) (new.write_faults role)
 
 -- where no count rose the answer is the one that is owed, or want of memory
 abbrev pub AnswersWhatIsOwed : Status → List (List ℕ) → Outside → Outside → Type 0

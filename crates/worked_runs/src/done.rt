@@ -1,8 +1,9 @@
 //! Runs that are done: the report, and out.
 
-use crate::hosts::{DISK, joined, run_schedule, run_words};
+use crate::hosts::{DISK, joined, run_quietly, run_schedule, run_words};
 use bm_host::{NoMemory, Role};
 use bmcast::Status;
+use schedule_text::LineFault;
 use std::alloc::Global;
 use std::test::Fail;
 
@@ -30,6 +31,22 @@ fn short_schedules_and_their_reports(rt: HostRuntime) -> Result<(), Fail> {
             b"".as_slice(),
             "at {report:?}"
         );
+    }
+    Ok(())
+}
+
+// A host that never fails keeps nothing of a report, so the status says all.
+#[test]
+fn runs_over_a_quiet_host(rt: HostRuntime) -> Result<(), Fail> {
+    let bad = Status::BadLine(2, LineFault::NoEnd);
+    let cases: [(&[u8], Status); 3] = [
+        (b"end\n", Status::Done),
+        (READ, Status::Done),
+        (b"d ok\n", bad),
+    ];
+    for (schedule, wanted) in cases {
+        let status = run_quietly(rt.alloc(), schedule)?;
+        assert_eq!(rt; status, wanted, "at {schedule:?}");
     }
     Ok(())
 }

@@ -1,6 +1,6 @@
 //! The words and files that the runs have in common.
 
-use bm_host::{MemoryHost, NoMemory, Role};
+use bm_host::{MemoryHost, NoMemory, QuietHost, Role};
 use bmcast::{Status, bmcast};
 use std::alloc::Global;
 
@@ -88,13 +88,31 @@ pub fn run_words(
     run(alloc, words, more, &files)
 }
 
+/// A schedule without an image, over a host that never fails, by the words of a run.
+pub fn run_quietly(alloc: Global, schedule: &[u8]) -> Result<Status, NoMemory> {
+    let files = Files {
+        image: &[],
+        disk: &DISK,
+        schedule,
+        failing: &[],
+    };
+    let mut host = QuietHost::new(named(alloc, &files)?);
+    let words = owned(alloc, &WORDS, &[])?;
+    Ok(bmcast(alloc, words.as_slice(), &mut host))
+}
+
 fn host_of(alloc: Global, files: &Files<'_>) -> Result<MemoryHost, NoMemory> {
+    let named = named(alloc, files)?;
+    MemoryHost::new(alloc, named, files.failing.to_vec(alloc)?, 16_384)
+}
+
+fn named(alloc: Global, files: &Files<'_>) -> Result<Vec<(Role, Vec<u8>)>, NoMemory> {
     let mut named = Vec::new(alloc);
     named.push((Role::Image, files.image.to_vec(alloc)?))?;
     named.push((Role::Disk, files.disk.to_vec(alloc)?))?;
     named.push((Role::Schedule, files.schedule.to_vec(alloc)?))?;
     named.push((Role::Report, OLD_REPORT.to_vec(alloc)?))?;
-    MemoryHost::new(alloc, named, files.failing.to_vec(alloc)?, 16_384)
+    Ok(named)
 }
 
 fn owned(alloc: Global, words: &[&str], more: &[&str]) -> Result<Vec<String>, NoMemory> {
