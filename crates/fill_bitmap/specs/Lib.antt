@@ -1,2 +1,5 @@
 pub mod Area
 pub mod Lengths
+pub mod Bits
+pub mod BlockSet
+pub mod Bitmap

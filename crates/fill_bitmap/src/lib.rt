@@ -7,9 +7,12 @@
 #![tactic(auto)]
 
 mod area;
+mod bitmap;
+mod block_set;
 mod lengths;
 #[cfg(test)]
 mod tests;
 
 pub use area::{Area, BLOCKS_OF_SECTOR, MOST_SECTORS};
+pub use bitmap::Bitmap;
 pub use lengths::{SECTOR_BYTES, Unsuitable, area_of};

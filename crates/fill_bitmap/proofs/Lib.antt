@@ -1,0 +1,4 @@
+pub mod Sectors
+pub mod Bytes
+pub mod Outside
+pub mod Nested
