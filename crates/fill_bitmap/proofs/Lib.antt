@@ -2,3 +2,4 @@ pub mod Sectors
 pub mod Bytes
 pub mod Outside
 pub mod Nested
+pub mod Disks

@@ -3,3 +3,4 @@ pub mod Lengths
 pub mod Bits
 pub mod BlockSet
 pub mod Bitmap
+pub mod Disk

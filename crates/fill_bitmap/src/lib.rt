@@ -9,10 +9,14 @@
 mod area;
 mod bitmap;
 mod block_set;
+mod laws;
 mod lengths;
 #[cfg(test)]
 mod tests;
 
 pub use area::{Area, BLOCKS_OF_SECTOR, MOST_SECTORS};
 pub use bitmap::Bitmap;
+pub use laws::{
+    a_fresh_disk_shows_the_image, a_header_is_a_sector, written_sectors_store_their_set,
+};
 pub use lengths::{SECTOR_BYTES, Unsuitable, area_of};

@@ -1,0 +1,83 @@
+-- What the sectors of a disk say.
+use Rattle.std.proofs.Common.{◌≡◌, ℕ, ◌+◌, ◌-◌, ◌*◌, ◌/◌, ◌<◌, ◌≤◌, Bool, true, false, not, ◌&&◌, if◌then◌else◌, nat_lt, List, [], ◌++◌, length, map, take, drop, replicate, get_or, arith, refl, sym, ap, inl, inr, ◌∙◌}
+use Rattle.std.specs.Int.{div_ceil}
+use Rattle.std.specs.List.{range_with_len}
+use Rattle.std.specs.Str.{bytes_eq}
+use Rattle.std.proofs.lemmas.Bool.{cases_lt}
+use Rattle.std.proofs.lemmas.Bool.Decides.{nat_tests}
+use Rattle.std.proofs.lemmas.List.{get_or_append_left, get_or-append_right, get_or-drop, get_or-take, get_or-replicate, get_or_past, length-append, length-drop, length-take, length-replicate}
+use Rattle.std.proofs.lemmas.List.FromFn.{fill_by_all}
+use Rattle.std.proofs.lemmas.Slice.Eq.{bytes_eq-Decides}
+use Rattle.fill_bitmap.specs.declared.area.Area.{Area}
+use Rattle.fill_bitmap.specs.Area.{IsSuitable, blocks_of, bitmap_sectors_of, reserved_of}
+use Rattle.fill_bitmap.specs.Bits.{has_bit}
+use Rattle.fill_bitmap.specs.BlockSet.{has, no_block}
+use Rattle.fill_bitmap.specs.Disk.{sector_at, header_of, HasHeader, has_header, bitmap_sector, says_stored, stored_blocks, sector_seen, guest_view, HoldsSet, HaveLengths}
+use Rattle.fill_bitmap.proofs.Bytes.{bit_written}
+
+-- a set of none of the blocks has none
+has-no_block : (n b : ℕ) → has (no_block n) b ≡ false
+has-no_block n b = elim (cases_lt b n) [
+  | inl inside ↦ get_or-replicate n b false false inside
+  | inr past ↦ get_or_past (no_block n) b false (omega (arith, length-replicate n false))
+]
+
+-- what the bitmap says of a block, where a set was written
+written_bit : (area : Area) (id : ℕ) (set : List Bool) (disk : List (List ℕ)) → HoldsSet area id set disk
+    → (b : ℕ) → b < blocks_of area → has set b ≡ says_stored area disk b
+written_bit area id set disk holds b inside =
+    let sector = holds.bitmap (b / 4096) (omega arith) in
+    sym (ap (λ bytes. has_bit bytes b) sector ∙ bit_written (b / 4096) b set refl)
+
+-- where a set was written, it is stored
+pub stored_set : (area : Area) (id : ℕ) (set : List Bool) (disk : List (List ℕ)) → HoldsSet area id set disk → stored_blocks area id disk ≡ set
+stored_set area id set disk holds =
+    let same : has_header area id disk ≡ true = (bytes_eq-Decides (sector_at (reserved_of area) disk) (header_of area id)).1 holds.header in
+    rw same (sym (fill_by_all (says_stored area disk) set (blocks_of area) false holds.blocks (written_bit area id set disk holds)))
+
+untrue : (x : Bool) → (x ≡ true → ⊥) → x ≡ false
+untrue true h = absurd (h refl)
+untrue false h = refl
+
+-- without the header no block is stored
+none_stored : (area : Area) (id : ℕ) (disk : List (List ℕ)) → (HasHeader area id disk → ⊥) → stored_blocks area id disk ≡ no_block (blocks_of area)
+none_stored area id disk none =
+    let test : has_header area id disk ≡ false =
+    untrue (has_header area id disk) (λ h. none ((bytes_eq-Decides (sector_at (reserved_of area) disk) (header_of area id)).0 h)) in
+    rw test refl
+
+-- the reserved sectors stand behind the image and end with the disk
+bounds : (area : Area) → IsSuitable area → (area.image ≤ reserved_of area) × (reserved_of area ≤ area.sectors)
+bounds area suitable = grind arith
+
+-- where no block is on the disk, a sector of the image is the image's
+seen_empty : (area : Area) (n : ℕ) (image disk : List (List ℕ)) (s : ℕ) → s < area.image → sector_seen area (no_block n) image disk s ≡ get_or image s []
+seen_empty area n image disk s inside = rw (has-no_block n (s / area.block)) (let test : nat_lt s area.image ≡ true = grind (arith, nat_tests) in rw test refl)
+
+-- a sector behind the image is the disk's
+seen_behind : (area : Area) (set : List Bool) (image disk : List (List ℕ)) (s : ℕ) → area.image ≤ s → sector_seen area set image disk s ≡ get_or disk s []
+seen_behind area set image disk s past = let test : nat_lt s area.image ≡ false = grind (arith, nat_tests) in rw test refl
+
+joined : (a r n s : ℕ) (image disk : List (List ℕ)) (area : Area) → area.image ≡ a → length image ≡ a → s < r
+    → get_or (image ++ drop a (take r disk)) s [] ≡ sector_seen area (no_block n) image disk s
+joined a r n s image disk area e long below = elim (cases_lt s a) [
+  | inl inside ↦ get_or_append_left image (drop a (take r disk)) [] s (omega arith) ∙ sym (seen_empty area n image disk s (omega arith))
+  | inr past ↦
+      let place : a + (s - a) ≡ s = omega arith in
+      get_or-append_right image (drop a (take r disk)) a s [] long past ∙ get_or-drop a (take r disk) (s - a) []
+      ∙ ap (λ i. get_or (take r disk) i []) place ∙ get_or-take r disk s [] below ∙ sym (seen_behind area (no_block n) image disk s (omega arith))
+]
+
+joined_length : (a r : ℕ) (image disk : List (List ℕ)) → length image ≡ a → a ≤ r → r ≤ length disk → length (image ++ drop a (take r disk)) ≡ r
+joined_length a r image disk long behind within =
+    omega (arith, length-append image (drop a (take r disk)), length-drop a (take r disk), length-take r disk)
+
+-- without a stored block a guest reads the image's sectors, and behind it the disk's
+pub fresh_view : (area : Area) (id : ℕ) (image disk : List (List ℕ)) → IsSuitable area → HaveLengths area image disk → (HasHeader area id disk → ⊥)
+    → guest_view area id image disk ≡ image ++ drop area.image (take (reserved_of area) disk)
+fresh_view area id image disk suitable long none =
+    let (behind, within) = bounds area suitable in
+    ap (λ set. map (sector_seen area set image disk) (range_with_len 0 (reserved_of area))) (none_stored area id disk none)
+    ∙ sym (fill_by_all (sector_seen area (no_block (blocks_of area)) image disk) (image ++ drop area.image (take (reserved_of area) disk)) (reserved_of area) []
+    (joined_length area.image (reserved_of area) image disk long.image_sectors behind (omega arith))
+    (λ s below. joined area.image (reserved_of area) (blocks_of area) s image disk area refl long.image_sectors below))

@@ -1,0 +1,62 @@
+-- What the sectors of a disk say: the header, the stored blocks, and what a guest reads.
+use Rattle.std.specs.Prelude.{ℕ, ◌≡◌, ◌<◌, ◌+◌, ◌/◌, Bool, not, ◌&&◌, if◌then◌else◌, nat_lt, List, [], ◌++◌, length, map, replicate, slice_index_or, codes}
+use Rattle.std.specs.Int.{w32, w64, to_be_bytes}
+use Rattle.std.specs.List.{range_with_len}
+use Rattle.std.specs.Str.{bytes_eq}
+use Rattle.fill_bitmap.specs.declared.area.Area.{Area}
+use Rattle.fill_bitmap.specs.declared.area.TheConstants.{BLOCKS_OF_SECTOR}
+use Rattle.fill_bitmap.specs.Area.{blocks_of, bitmap_sectors_of, reserved_of}
+use Rattle.fill_bitmap.specs.Bits.{has_bit, sector_of}
+use Rattle.fill_bitmap.specs.BlockSet.{has, no_block}
+
+-- sector `s` of a list of sectors
+abbrev pub sector_at : ℕ → List (List ℕ) → List ℕ
+sector_at s sectors = slice_index_or sectors s []
+
+-- a run's header: BMCFILL1, then its number, the image's sectors and a block's sectors with the high byte first, then zeros (own)
+unfoldable pub header_of : Area → ℕ → List ℕ
+header_of area id =
+    codes "BMCFILL1" ++ to_be_bytes w64 id ++ to_be_bytes w64 area.image ++ to_be_bytes w32 area.block ++ replicate 484 0
+
+-- the first reserved sector of a disk is the run's header (own)
+abbrev pub HasHeader : Area → ℕ → List (List ℕ) → Type 0
+HasHeader area id disk = sector_at (reserved_of area) disk ≡ header_of area id
+
+-- the same as a test
+abbrev pub has_header : Area → ℕ → List (List ℕ) → Bool
+has_header area id disk = bytes_eq (sector_at (reserved_of area) disk) (header_of area id)
+
+-- sector `k` of the bitmap on a disk: it stands behind the header (own)
+abbrev pub bitmap_sector : Area → List (List ℕ) → ℕ → List ℕ
+bitmap_sector area disk k = sector_at (reserved_of area + 1 + k) disk
+
+-- whether the bitmap on a disk has the bit of block `b` set
+abbrev pub says_stored : Area → List (List ℕ) → ℕ → Bool
+says_stored area disk b = has_bit (bitmap_sector area disk (b / BLOCKS_OF_SECTOR)) b
+
+-- the stored blocks of a disk: those whose bit is set, and none where the header isn't the run's (own)
+abbrev pub stored_blocks : Area → ℕ → List (List ℕ) → List Bool
+stored_blocks area id disk =
+    if has_header area id disk then map (says_stored area disk) (range_with_len 0 (blocks_of area))
+    else no_block (blocks_of area)
+
+-- what a guest reads at sector `s` where these blocks are on the disk: the image's sector in any other block (own)
+abbrev pub sector_seen : Area → List Bool → List (List ℕ) → List (List ℕ) → ℕ → List ℕ
+sector_seen area set image disk s =
+    if nat_lt s area.image && not (has set (s / area.block)) then sector_at s image else sector_at s disk
+
+-- what a guest finds on a disk after a power cut: every sector below the reserved ones, by the stored blocks (own)
+abbrev pub guest_view : Area → ℕ → List (List ℕ) → List (List ℕ) → List (List ℕ)
+guest_view area id image disk =
+    map (sector_seen area (stored_blocks area id disk) image disk) (range_with_len 0 (reserved_of area))
+
+-- a disk on which a settling has written a set of blocks: the header, and each sector of the bitmap (own)
+pub record HoldsSet (area : Area) (id : ℕ) (set : List Bool) (disk : List (List ℕ)) : Type 0 where
+  pub blocks : length set ≡ blocks_of area
+  pub header : HasHeader area id disk
+  pub bitmap : (k : ℕ) → k < bitmap_sectors_of area → bitmap_sector area disk k ≡ sector_of k set
+
+-- an image and a disk as long as the area says
+pub record HaveLengths (area : Area) (image disk : List (List ℕ)) : Type 0 where
+  pub image_sectors : length image ≡ area.image
+  pub disk_sectors : length disk ≡ area.sectors

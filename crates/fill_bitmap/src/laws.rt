@@ -1,0 +1,24 @@
+//! Laws that show what the definitions of `specs/Disk.antt` mean. Each holds of every value, and no code runs.
+
+ghost use Rattle.std.specs.Prelude.{◌≡◌, ◌++◌, ℕ, Bool, List, length, take, drop};
+ghost use Rattle.fill_bitmap.specs.declared.area.Area.{Area};
+ghost use Rattle.fill_bitmap.specs.Area.{IsSuitable, reserved_of};
+ghost use Rattle.fill_bitmap.specs.Disk.{header_of, HasHeader, stored_blocks, guest_view, HoldsSet, HaveLengths};
+
+/// A header is as long as a sector, whatever the area and the run.
+pub fn a_header_is_a_sector()
+    ensures { (area : Area) (id : ℕ) → length (header_of area id) ≡ 512 }
+{}
+
+/// The stored blocks of a disk with the header and the sectors of a set of blocks are that set.
+pub fn written_sectors_store_their_set()
+    ensures { (area : Area) (id : ℕ) (set : List Bool) (disk : List (List ℕ)) →
+        HoldsSet area id set disk → stored_blocks area id disk ≡ set }
+{}
+
+/// On a disk without the header a guest finds the image, and behind it the disk's own sectors.
+pub fn a_fresh_disk_shows_the_image()
+    ensures { (area : Area) (id : ℕ) (image disk : List (List ℕ)) →
+        IsSuitable area → HaveLengths area image disk → ¬ HasHeader area id disk →
+        guest_view area id image disk ≡ image ++ drop area.image (take (reserved_of area) disk) }
+{}
