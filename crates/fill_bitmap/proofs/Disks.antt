@@ -1,8 +1,7 @@
 -- What the sectors of a disk say.
-use Rattle.std.proofs.Common.{◌≡◌, ℕ, ◌+◌, ◌-◌, ◌*◌, ◌/◌, ◌<◌, ◌≤◌, Bool, true, false, not, ◌&&◌, if◌then◌else◌, nat_lt, List, [], ◌++◌, length, map, take, drop, replicate, get_or, arith, refl, sym, ap, inl, inr, ◌∙◌}
+use Rattle.std.proofs.Common.{◌≡◌, ℕ, zero, suc, ◌==◌, ◌||◌, ◌+◌, ◌-◌, ◌*◌, ◌/◌, ◌<◌, ◌≤◌, Bool, true, false, ◌&&◌, nat_lt, List, [], ◌++◌, length, map, take, drop, get_or, arith, refl, sym, ap, inl, inr, ◌∙◌}
 use Rattle.std.specs.Int.{div_ceil}
 use Rattle.std.specs.List.{range_with_len}
-use Rattle.std.specs.Str.{bytes_eq}
 use Rattle.std.proofs.lemmas.Bool.{cases_lt}
 use Rattle.std.proofs.lemmas.Bool.Decides.{nat_tests}
 use Rattle.std.proofs.lemmas.List.{get_or_append_left, get_or-append_right, get_or-drop, get_or-take, get_or-replicate, get_or_past, length-append, length-drop, length-take, length-replicate}
@@ -12,7 +11,8 @@ use Rattle.fill_bitmap.specs.declared.area.Area.{Area}
 use Rattle.fill_bitmap.specs.Area.{IsSuitable, blocks_of, bitmap_sectors_of, reserved_of}
 use Rattle.fill_bitmap.specs.Bits.{has_bit}
 use Rattle.fill_bitmap.specs.BlockSet.{has, no_block}
-use Rattle.fill_bitmap.specs.Disk.{sector_at, header_of, HasHeader, has_header, bitmap_sector, says_stored, stored_blocks, sector_seen, guest_view, HoldsSet, HaveLengths}
+use Rattle.fill_bitmap.specs.Disk.{sector_at, header_of, HasHeader, has_header, bitmap_sector, says_stored, stored_blocks, sector_seen, guest_view, HoldsSet, HaveLengths, with_sectors}
+use Rattle.fill_bitmap.proofs.Sectors.{length-with_sector, has-with_sector}
 use Rattle.fill_bitmap.proofs.Bytes.{bit_written}
 
 -- a set of none of the blocks has none
@@ -35,6 +35,65 @@ stored_set area id set disk holds =
     let same : has_header area id disk ≡ true = (bytes_eq-Decides (sector_at (reserved_of area) disk) (header_of area id)).1 holds.header in
     rw same (sym (fill_by_all (says_stored area disk) set (blocks_of area) false holds.blocks (written_bit area id set disk holds)))
 
+lt_true : (a b : ℕ) → a < b → nat_lt a b ≡ true
+lt_true a b h = grind (arith, nat_tests)
+
+lt_false : (a b : ℕ) → b ≤ a → nat_lt a b ≡ false
+lt_false a b h = grind (arith, nat_tests)
+
+eq_true : (a b : ℕ) → a ≡ b → (a == b) ≡ true
+eq_true a b h = grind (arith, nat_tests)
+
+eq_false : (a b : ℕ) → (a ≡ b → ⊥) → (a == b) ≡ false
+eq_false a b h = grind (arith, nat_tests)
+
+or_false : (x : Bool) → (x || false) ≡ x
+or_false true = refl
+or_false false = refl
+
+-- the blocks of one sector more, in which a block has the bit y
+one_more : (k b : ℕ) (x y : Bool) → (b / 4096 ≡ k → y ≡ x)
+    → ((nat_lt b (k * 4096) && x) || ((b / 4096 == k) && y)) ≡ (nat_lt b (suc k * 4096) && x)
+one_more k b x y same = elim (cases_lt b (k * 4096)) [
+  | inl low ↦ rw (lt_true b (k * 4096) low, eq_false (b / 4096) k (λ e. omega arith), lt_true b (suc k * 4096) (omega arith)) (or_false x)
+  | inr high ↦ elim (cases_lt b (suc k * 4096)) [
+    | inl here ↦
+        let is : b / 4096 ≡ k = omega arith in
+        rw (lt_false b (k * 4096) high, eq_true (b / 4096) k is, lt_true b (suc k * 4096) here) (same is)
+    | inr past ↦ rw (lt_false b (k * 4096) high, eq_false (b / 4096) k (λ e. omega arith), lt_false b (suc k * 4096) past) refl
+  ]
+]
+
+length-with_sectors : (k : ℕ) (area : Area) (disk : List (List ℕ)) (set : List Bool) → length (with_sectors k area disk set) ≡ length set
+length-with_sectors zero area disk set = refl
+length-with_sectors (suc k) area disk set =
+    length-with_sector k (bitmap_sector area disk k) (with_sectors k area disk set) ∙ length-with_sectors k area disk set
+
+-- what the first so many sectors give
+has-with_sectors : (k : ℕ) (area : Area) (disk : List (List ℕ)) (n b : ℕ) → b < n
+    → has (with_sectors k area disk (no_block n)) b ≡ (nat_lt b (k * 4096) && says_stored area disk b)
+has-with_sectors zero area disk n b inside = has-no_block n b ∙ sym (ap (λ test. test && says_stored area disk b) (lt_false b 0 (omega arith)))
+has-with_sectors (suc k) area disk n b inside =
+    let before = has-with_sectors k area disk n b inside in
+    has-with_sector k (bitmap_sector area disk k) (with_sectors k area disk (no_block n)) b
+    (omega (arith, length-with_sectors k area disk (no_block n), length-replicate n false))
+    ∙ ap (λ held. held || ((b / 4096 == k) && has_bit (bitmap_sector area disk k) b)) before
+    ∙ one_more k b (says_stored area disk b) (has_bit (bitmap_sector area disk k) b) (λ e. ap (λ i. has_bit (bitmap_sector area disk i) b) (sym e))
+
+-- the sectors of the bitmap are enough for each block
+all_sectors : (n b : ℕ) → b < n → nat_lt b (div_ceil n 4096 * 4096) ≡ true
+all_sectors n b inside = lt_true b (div_ceil n 4096 * 4096) (omega arith)
+
+-- all of them give the stored blocks
+pub added_all : (area : Area) (id : ℕ) (disk : List (List ℕ)) → HasHeader area id disk
+    → with_sectors (bitmap_sectors_of area) area disk (no_block (blocks_of area)) ≡ stored_blocks area id disk
+added_all area id disk header =
+    let same : has_header area id disk ≡ true = (bytes_eq-Decides (sector_at (reserved_of area) disk) (header_of area id)).1 header in
+    rw same (fill_by_all (says_stored area disk) (with_sectors (bitmap_sectors_of area) area disk (no_block (blocks_of area))) (blocks_of area) false
+    (length-with_sectors (bitmap_sectors_of area) area disk (no_block (blocks_of area)) ∙ length-replicate (blocks_of area) false)
+    (λ b inside. has-with_sectors (bitmap_sectors_of area) area disk (blocks_of area) b inside
+    ∙ ap (λ test. test && says_stored area disk b) (all_sectors (blocks_of area) b inside)))
+
 untrue : (x : Bool) → (x ≡ true → ⊥) → x ≡ false
 untrue true h = absurd (h refl)
 untrue false h = refl
@@ -52,11 +111,11 @@ bounds area suitable = grind arith
 
 -- where no block is on the disk, a sector of the image is the image's
 seen_empty : (area : Area) (n : ℕ) (image disk : List (List ℕ)) (s : ℕ) → s < area.image → sector_seen area (no_block n) image disk s ≡ get_or image s []
-seen_empty area n image disk s inside = rw (has-no_block n (s / area.block)) (let test : nat_lt s area.image ≡ true = grind (arith, nat_tests) in rw test refl)
+seen_empty area n image disk s inside = rw (has-no_block n (s / area.block)) (rw (lt_true s area.image inside) refl)
 
 -- a sector behind the image is the disk's
 seen_behind : (area : Area) (set : List Bool) (image disk : List (List ℕ)) (s : ℕ) → area.image ≤ s → sector_seen area set image disk s ≡ get_or disk s []
-seen_behind area set image disk s past = let test : nat_lt s area.image ≡ false = grind (arith, nat_tests) in rw test refl
+seen_behind area set image disk s past = rw (lt_false s area.image past) refl
 
 joined : (a r n s : ℕ) (image disk : List (List ℕ)) (area : Area) → area.image ≡ a → length image ≡ a → s < r
     → get_or (image ++ drop a (take r disk)) s [] ≡ sector_seen area (no_block n) image disk s

@@ -1,10 +1,10 @@
 -- Sets within sets.
-use Rattle.std.proofs.Common.{◌≡◌, ℕ, ◌<◌, ◌≤◌, ◌==◌, ◌/◌, Bool, true, false, ◌||◌, ◌&&◌, List, length, refl, arith, inl, inr, sym, ◌∙◌}
+use Rattle.std.proofs.Common.{◌≡◌, ℕ, ◌==◌, ◌/◌, Bool, true, false, ◌||◌, ◌&&◌, List, length, refl, arith, inl, inr, sym, ◌∙◌}
 use Rattle.std.proofs.lemmas.Bool.{cases_lt}
 use Rattle.std.proofs.lemmas.List.{get_or_past}
 use Rattle.fill_bitmap.specs.Bits.{has_bit}
 use Rattle.fill_bitmap.specs.BlockSet.{has, IsWithin, with_sector}
-use Rattle.fill_bitmap.specs.Bitmap.{Sets, IsNested, loaded}
+use Rattle.fill_bitmap.specs.Bitmap.{Sets, IsNested, blocks_in, loaded}
 use Rattle.fill_bitmap.proofs.Sectors.{length-with_sector, has-with_sector}
 
 or_kept : (x y z : Bool) → (x ≡ true → y ≡ true) → (x || z) ≡ true → (y || z) ≡ true
@@ -31,3 +31,7 @@ loaded_nested k sector s nested = record {
   stored_frozen = within_kept k sector s.stored s.frozen (nested.stored_blocks ∙ sym nested.frozen_blocks) nested.stored_frozen;
   frozen_filled = within_kept k sector s.frozen s.filled nested.frozen_blocks nested.frozen_filled;
 }
+
+-- as many blocks as before
+pub blocks_kept : (k : ℕ) (sector : List ℕ) (s : Sets) → blocks_in (loaded k sector s) ≡ blocks_in s
+blocks_kept k sector s = length-with_sector k sector s.filled

@@ -1,5 +1,5 @@
 -- A set with the blocks of one sector of the bitmap.
-use Rattle.std.proofs.Common.{◌≡◌, ℕ, ◌+◌, ◌*◌, ◌/◌, ◌<◌, ◌≤◌, ◌==◌, min, Bool, true, false, ◌&&◌, ◌||◌, List, length, get_or, arith, inl, inr, sym, ◌∙◌}
+use Rattle.std.proofs.Common.{◌≡◌, ℕ, ◌+◌, ◌*◌, ◌/◌, ◌<◌, ◌≤◌, ◌==◌, min, Bool, true, false, ◌&&◌, ◌||◌, List, length, arith, inl, inr, sym, ◌∙◌}
 use Rattle.std.proofs.lemmas.Bool.{cases_lt}
 use Rattle.std.proofs.lemmas.Bool.Decides.{nat_tests}
 use Rattle.std.proofs.lemmas.List.FromFn.{fill_by_all, length-map-range_with_len, get_or-map-range_with_len}
@@ -10,24 +10,11 @@ other : (k j : ℕ) (x y : Bool) → (j / 4096 ≡ k → ⊥) → (x || ((j / 40
 other k j true y apart = grind arith
 other k j false y apart = grind (arith, nat_tests)
 
-within : (k j : ℕ) (x y : Bool) → j / 4096 ≡ k → (x || ((j / 4096 == k) && y)) ≡ (x || y)
-within k j true y same = grind arith
-within k j false y same = grind (arith, nat_tests)
-
--- a block below the sector's first is as it was
-pub added_below : (k : ℕ) (sector : List ℕ) (set : List Bool) (b : ℕ) → b < k * 4096 → has_added k sector set b ≡ has set b
-added_below k sector set b below = other k b (has set b) (has_bit sector b) (λ e. omega arith)
-
 -- a block behind the sector's last is as it was
-pub added_behind : (k : ℕ) (sector : List ℕ) (set : List Bool) (b : ℕ) → k * 4096 + 4096 ≤ b → has_added k sector set b ≡ has set b
+added_behind : (k : ℕ) (sector : List ℕ) (set : List Bool) (b : ℕ) → k * 4096 + 4096 ≤ b → has_added k sector set b ≡ has set b
 added_behind k sector set b behind = other k b (has set b) (has_bit sector b) (λ e. omega arith)
 
--- a block of the sector is added where its bit is set
-pub added_within : (k : ℕ) (sector : List ℕ) (set : List Bool) (b : ℕ) → k * 4096 ≤ b → b < k * 4096 + 4096
-    → has_added k sector set b ≡ (has set b || has_bit sector b)
-added_within k sector set b from to = within k b (has set b) (has_bit sector b) (omega arith)
-
--- a set whose blocks below a place are as they are to be, and the others as they were, where the sector's end below it
+-- a set whose blocks below a place, which the sector's end isn't above, are as they are to be, and the others as they were
 pub all_added : (k : ℕ) (sector : List ℕ) (old new : List Bool) (place : ℕ) → length new ≡ length old
     → min (length old) (k * 4096 + 4096) ≤ place
     → ((b : ℕ) → b < place → has new b ≡ has_added k sector old b)

@@ -2,7 +2,7 @@
 use Rattle.std.specs.Prelude.{ℕ, ◌≡◌, Bool, true, List, length, slice_set}
 use Rattle.std.specs.Int.{div_ceil}
 use Rattle.fill_bitmap.specs.declared.area.TheConstants.{BLOCKS_OF_SECTOR}
-use Rattle.fill_bitmap.specs.BlockSet.{has, no_block, IsWithin, with_sector}
+use Rattle.fill_bitmap.specs.BlockSet.{no_block, IsWithin, with_sector}
 
 -- the stored, the frozen and the filled blocks (own)
 pub record Sets : Type 0 where

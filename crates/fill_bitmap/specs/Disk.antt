@@ -1,5 +1,5 @@
 -- What the sectors of a disk say: the header, the stored blocks, and what a guest reads.
-use Rattle.std.specs.Prelude.{ℕ, ◌≡◌, ◌<◌, ◌+◌, ◌/◌, Bool, not, ◌&&◌, if◌then◌else◌, nat_lt, List, [], ◌++◌, length, map, replicate, slice_index_or, codes}
+use Rattle.std.specs.Prelude.{ℕ, zero, suc, ◌≡◌, ◌<◌, ◌+◌, ◌/◌, Bool, not, ◌&&◌, if◌then◌else◌, nat_lt, List, [], ◌++◌, length, map, replicate, slice_index_or, codes}
 use Rattle.std.specs.Int.{w32, w64, to_be_bytes}
 use Rattle.std.specs.List.{range_with_len}
 use Rattle.std.specs.Str.{bytes_eq}
@@ -7,7 +7,7 @@ use Rattle.fill_bitmap.specs.declared.area.Area.{Area}
 use Rattle.fill_bitmap.specs.declared.area.TheConstants.{BLOCKS_OF_SECTOR}
 use Rattle.fill_bitmap.specs.Area.{blocks_of, bitmap_sectors_of, reserved_of}
 use Rattle.fill_bitmap.specs.Bits.{has_bit, sector_of}
-use Rattle.fill_bitmap.specs.BlockSet.{has, no_block}
+use Rattle.fill_bitmap.specs.BlockSet.{has, no_block, with_sector}
 
 -- sector `s` of a list of sectors
 abbrev pub sector_at : ℕ → List (List ℕ) → List ℕ
@@ -39,6 +39,11 @@ abbrev pub stored_blocks : Area → ℕ → List (List ℕ) → List Bool
 stored_blocks area id disk =
     if has_header area id disk then map (says_stored area disk) (range_with_len 0 (blocks_of area))
     else no_block (blocks_of area)
+
+-- a set to which the first so many sectors of a disk's bitmap were added, in order (own)
+abbrev pub with_sectors : ℕ → Area → List (List ℕ) → List Bool → List Bool
+with_sectors zero area disk set = set
+with_sectors (suc k) area disk set = with_sector k (bitmap_sector area disk k) (with_sectors k area disk set)
 
 -- what a guest reads at sector `s` where these blocks are on the disk: the image's sector in any other block (own)
 abbrev pub sector_seen : Area → List Bool → List (List ℕ) → List (List ℕ) → ℕ → List ℕ

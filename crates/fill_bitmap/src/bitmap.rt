@@ -1,10 +1,11 @@
 //! The bitmap: which blocks of the image are stored, frozen and filled.
 
-ghost use Rattle.std.specs.Prelude.{◌≡◌, ◌<◌, ◌≤◌, ◌↔◌, false, IfOk, IfSome, IsNone, IsTrue};
-ghost use Rattle.fill_bitmap.specs.Bits.{sector_of};
+ghost use Rattle.std.specs.Prelude.{◌≡◌, ℕ, ◌/◌, ◌<◌, ◌≤◌, ◌↔◌, false, IfOk, IfSome, IsNone, IsTrue};
+ghost use Rattle.fill_bitmap.specs.Bits.{has_bit, sector_of};
 ghost use Rattle.fill_bitmap.specs.BlockSet.{IsWhole, has, next_outside};
 ghost use Rattle.fill_bitmap.specs.Bitmap.{IsNested, blocks_in, sectors_in, no_blocks, with_filled, loaded, frozen_now, frozen_stored};
 
+use crate::area::BLOCKS_OF_SECTOR;
 use crate::block_set::BlockSet;
 use std::alloc::{AllocError, Global};
 use std::marker::Model;
@@ -35,7 +36,7 @@ impl Model for Bitmap {
 impl Bitmap {
     /// The bitmap of an image of so many blocks, none of them in any set. It fails only for want of memory.
     pub fn new(alloc: Global, blocks: u32) -> Result<Bitmap, AllocError>
-        ensures none { IfOk result (λ bitmap. bitmap ≡ no_blocks blocks) }
+        ensures empty { IfOk result (λ bitmap. bitmap ≡ no_blocks blocks) }
         ensures nested { IfOk result IsNested }
     {
         Ok(Bitmap {
@@ -47,7 +48,8 @@ impl Bitmap {
 
     /// Takes every block out of all three sets, as at power-on.
     pub fn clear(&mut self)
-        ensures none { self.new ≡ no_blocks (blocks_in self.old) }
+        ensures empty { self.new ≡ no_blocks (blocks_in self.old) }
+        ensures count { blocks_in self.new ≡ blocks_in self.old }
         ensures nested { IsNested self.new }
     {
         self.stored.clear();
@@ -58,9 +60,11 @@ impl Bitmap {
     /// Adds the blocks whose bits are set in `sector`, the bitmap's sector `k`, to all three sets.
     ///
     /// Bits past the last block are ignored.
+    #[tactic(auto, using(crate::proofs::Nested::blocks_kept))]
     pub fn load(&mut self, k: u32, sector: &[u8; 512])
         requires { k < sectors_in self.old }
         ensures loaded { self.new ≡ loaded k sector.now self.old }
+        ensures count { blocks_in self.new ≡ blocks_in self.old }
         ensures nested { IsNested self.new }
     {
         self.stored.add_sector(k, sector);
@@ -72,6 +76,7 @@ impl Bitmap {
     pub fn fill(&mut self, b: u32)
         requires { b < blocks_in self.old }
         ensures filled { self.new ≡ with_filled b self.old }
+        ensures count { blocks_in self.new ≡ blocks_in self.old }
         ensures nested { IsNested self.new }
     {
         self.filled.insert(b);
@@ -80,7 +85,7 @@ impl Bitmap {
     /// Whether block `b` is filled.
     pub fn is_filled(&self, b: u32) -> bool
         requires { b < blocks_in self.now }
-        ensures { result ≡ has self.now.filled b }
+        ensures answer { result ≡ has self.now.filled b }
     {
         self.filled.has(b)
     }
@@ -88,7 +93,7 @@ impl Bitmap {
     /// Whether block `b` is stored.
     pub fn is_stored(&self, b: u32) -> bool
         requires { b < blocks_in self.now }
-        ensures { result ≡ has self.now.stored b }
+        ensures answer { result ≡ has self.now.stored b }
     {
         self.stored.has(b)
     }
@@ -107,21 +112,24 @@ impl Bitmap {
 
     /// Whether every block is filled.
     pub fn all_filled(&self) -> bool
-        ensures { IsTrue result ↔ IsWhole self.now.filled }
+        ensures answer { IsTrue result ↔ IsWhole self.now.filled }
+        ensures nested { IsNested self.now }
     {
         self.filled.is_whole()
     }
 
     /// Whether every block is stored.
     pub fn all_stored(&self) -> bool
-        ensures { IsTrue result ↔ IsWhole self.now.stored }
+        ensures answer { IsTrue result ↔ IsWhole self.now.stored }
+        ensures nested { IsNested self.now }
     {
         self.stored.is_whole()
     }
 
     /// Whether the filled blocks are the stored ones.
     pub fn filled_is_stored(&self) -> bool
-        ensures { IsTrue result ↔ (self.now.filled ≡ self.now.stored) }
+        ensures answer { IsTrue result ↔ (self.now.filled ≡ self.now.stored) }
+        ensures nested { IsNested self.now }
     {
         self.filled.is_same(&self.stored)
     }
@@ -129,6 +137,7 @@ impl Bitmap {
     /// The frozen blocks are from now on those that are filled now.
     pub fn freeze(&mut self)
         ensures frozen { self.new ≡ frozen_now self.old }
+        ensures count { blocks_in self.new ≡ blocks_in self.old }
         ensures nested { IsNested self.new }
     {
         self.frozen.copy_from(&self.filled);
@@ -137,9 +146,12 @@ impl Bitmap {
     /// Fills `into` with the bytes of the bitmap's sector `k`, in which the frozen blocks have their bits set.
     ///
     /// Bits past the last block are 0.
+    #[tactic(auto, using(crate::proofs::Bytes::bit_written))]
     pub fn frozen_sector(&self, k: u32, into: &mut [u8; 512])
         requires { k < sectors_in self.now }
-        ensures { into.new ≡ sector_of k self.now.frozen }
+        ensures bytes { into.new ≡ sector_of k self.now.frozen }
+        ensures bits { (b : ℕ) → b / BLOCKS_OF_SECTOR ≡ k →
+            has_bit into.new b ≡ has self.now.frozen b }
     {
         self.frozen.put_sector(k, into);
     }
@@ -147,6 +159,7 @@ impl Bitmap {
     /// The stored blocks are from now on the frozen ones: the bitmap on the disk says them, and was flushed.
     pub fn store_frozen(&mut self)
         ensures stored { self.new ≡ frozen_stored self.old }
+        ensures count { blocks_in self.new ≡ blocks_in self.old }
         ensures nested { IsNested self.new }
     {
         self.stored.copy_from(&self.frozen);

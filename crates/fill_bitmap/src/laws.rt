@@ -2,8 +2,9 @@
 
 ghost use Rattle.std.specs.Prelude.{◌≡◌, ◌++◌, ℕ, Bool, List, length, take, drop};
 ghost use Rattle.fill_bitmap.specs.declared.area.Area.{Area};
-ghost use Rattle.fill_bitmap.specs.Area.{IsSuitable, reserved_of};
-ghost use Rattle.fill_bitmap.specs.Disk.{header_of, HasHeader, stored_blocks, guest_view, HoldsSet, HaveLengths};
+ghost use Rattle.fill_bitmap.specs.Area.{IsSuitable, blocks_of, bitmap_sectors_of, reserved_of};
+ghost use Rattle.fill_bitmap.specs.BlockSet.{no_block};
+ghost use Rattle.fill_bitmap.specs.Disk.{header_of, HasHeader, stored_blocks, with_sectors, guest_view, HoldsSet, HaveLengths};
 
 /// A header is as long as a sector, whatever the area and the run.
 pub fn a_header_is_a_sector()
@@ -14,6 +15,14 @@ pub fn a_header_is_a_sector()
 pub fn written_sectors_store_their_set()
     ensures { (area : Area) (id : ℕ) (set : List Bool) (disk : List (List ℕ)) →
         HoldsSet area id set disk → stored_blocks area id disk ≡ set }
+{}
+
+/// A set of no block to which each sector of a disk's bitmap is added, in order, is the stored blocks of a disk with
+/// the header.
+pub fn added_sectors_give_the_stored_blocks()
+    ensures { (area : Area) (id : ℕ) (disk : List (List ℕ)) → HasHeader area id disk →
+        with_sectors (bitmap_sectors_of area) area disk (no_block (blocks_of area))
+        ≡ stored_blocks area id disk }
 {}
 
 /// On a disk without the header a guest finds the image, and behind it the disk's own sectors.

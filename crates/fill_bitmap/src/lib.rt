@@ -17,6 +17,7 @@ mod tests;
 pub use area::{Area, BLOCKS_OF_SECTOR, MOST_SECTORS};
 pub use bitmap::Bitmap;
 pub use laws::{
-    a_fresh_disk_shows_the_image, a_header_is_a_sector, written_sectors_store_their_set,
+    a_fresh_disk_shows_the_image, a_header_is_a_sector, added_sectors_give_the_stored_blocks,
+    written_sectors_store_their_set,
 };
 pub use lengths::{SECTOR_BYTES, Unsuitable, area_of};
