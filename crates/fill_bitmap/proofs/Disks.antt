@@ -10,16 +10,16 @@ use Rattle.std.proofs.lemmas.Slice.Eq.{bytes_eq-Decides}
 use Rattle.fill_bitmap.specs.declared.area.Area.{Area}
 use Rattle.fill_bitmap.specs.Area.{IsSuitable, blocks_of, bitmap_sectors_of, reserved_of}
 use Rattle.fill_bitmap.specs.Bits.{has_bit}
-use Rattle.fill_bitmap.specs.BlockSet.{has, no_block}
+use Rattle.fill_bitmap.specs.BlockSet.{has, empty_set}
 use Rattle.fill_bitmap.specs.Disk.{sector_at, header_of, HasHeader, has_header, bitmap_sector, says_stored, stored_blocks, sector_seen, guest_view, HoldsSet, HaveLengths, with_sectors}
 use Rattle.fill_bitmap.proofs.Sectors.{length-with_sector, has-with_sector}
 use Rattle.fill_bitmap.proofs.Bytes.{bit_written}
 
 -- a set of none of the blocks has none
-has-no_block : (n b : ℕ) → has (no_block n) b ≡ false
-has-no_block n b = elim (cases_lt b n) [
+has-empty_set : (n b : ℕ) → has (empty_set n) b ≡ false
+has-empty_set n b = elim (cases_lt b n) [
   | inl inside ↦ get_or-replicate n b false false inside
-  | inr past ↦ get_or_past (no_block n) b false (omega (arith, length-replicate n false))
+  | inr past ↦ get_or_past (empty_set n) b false (omega (arith, length-replicate n false))
 ]
 
 -- what the bitmap says of a block, where a set was written
@@ -71,12 +71,12 @@ length-with_sectors (suc k) area disk set =
 
 -- what the first so many sectors give
 has-with_sectors : (k : ℕ) (area : Area) (disk : List (List ℕ)) (n b : ℕ) → b < n
-    → has (with_sectors k area disk (no_block n)) b ≡ (nat_lt b (k * 4096) && says_stored area disk b)
-has-with_sectors zero area disk n b inside = has-no_block n b ∙ sym (ap (λ test. test && says_stored area disk b) (lt_false b 0 (omega arith)))
+    → has (with_sectors k area disk (empty_set n)) b ≡ (nat_lt b (k * 4096) && says_stored area disk b)
+has-with_sectors zero area disk n b inside = has-empty_set n b ∙ sym (ap (λ test. test && says_stored area disk b) (lt_false b 0 (omega arith)))
 has-with_sectors (suc k) area disk n b inside =
     let before = has-with_sectors k area disk n b inside in
-    has-with_sector k (bitmap_sector area disk k) (with_sectors k area disk (no_block n)) b
-    (omega (arith, length-with_sectors k area disk (no_block n), length-replicate n false))
+    has-with_sector k (bitmap_sector area disk k) (with_sectors k area disk (empty_set n)) b
+    (omega (arith, length-with_sectors k area disk (empty_set n), length-replicate n false))
     ∙ ap (λ held. held || ((b / 4096 == k) && has_bit (bitmap_sector area disk k) b)) before
     ∙ one_more k b (says_stored area disk b) (has_bit (bitmap_sector area disk k) b) (λ e. ap (λ i. has_bit (bitmap_sector area disk i) b) (sym e))
 
@@ -86,11 +86,11 @@ all_sectors n b inside = lt_true b (div_ceil n 4096 * 4096) (omega arith)
 
 -- all of them give the stored blocks
 pub added_all : (area : Area) (id : ℕ) (disk : List (List ℕ)) → HasHeader area id disk
-    → with_sectors (bitmap_sectors_of area) area disk (no_block (blocks_of area)) ≡ stored_blocks area id disk
+    → with_sectors (bitmap_sectors_of area) area disk (empty_set (blocks_of area)) ≡ stored_blocks area id disk
 added_all area id disk header =
     let same : has_header area id disk ≡ true = (bytes_eq-Decides (sector_at (reserved_of area) disk) (header_of area id)).1 header in
-    rw same (fill_by_all (says_stored area disk) (with_sectors (bitmap_sectors_of area) area disk (no_block (blocks_of area))) (blocks_of area) false
-    (length-with_sectors (bitmap_sectors_of area) area disk (no_block (blocks_of area)) ∙ length-replicate (blocks_of area) false)
+    rw same (fill_by_all (says_stored area disk) (with_sectors (bitmap_sectors_of area) area disk (empty_set (blocks_of area))) (blocks_of area) false
+    (length-with_sectors (bitmap_sectors_of area) area disk (empty_set (blocks_of area)) ∙ length-replicate (blocks_of area) false)
     (λ b inside. has-with_sectors (bitmap_sectors_of area) area disk (blocks_of area) b inside
     ∙ ap (λ test. test && says_stored area disk b) (all_sectors (blocks_of area) b inside)))
 
@@ -99,7 +99,7 @@ untrue true h = absurd (h refl)
 untrue false h = refl
 
 -- without the header no block is stored
-none_stored : (area : Area) (id : ℕ) (disk : List (List ℕ)) → (HasHeader area id disk → ⊥) → stored_blocks area id disk ≡ no_block (blocks_of area)
+none_stored : (area : Area) (id : ℕ) (disk : List (List ℕ)) → (HasHeader area id disk → ⊥) → stored_blocks area id disk ≡ empty_set (blocks_of area)
 none_stored area id disk none =
     let test : has_header area id disk ≡ false =
     untrue (has_header area id disk) (λ h. none ((bytes_eq-Decides (sector_at (reserved_of area) disk) (header_of area id)).0 h)) in
@@ -110,21 +110,21 @@ bounds : (area : Area) → IsSuitable area → (area.image ≤ reserved_of area)
 bounds area suitable = grind arith
 
 -- where no block is on the disk, a sector of the image is the image's
-seen_empty : (area : Area) (n : ℕ) (image disk : List (List ℕ)) (s : ℕ) → s < area.image → sector_seen area (no_block n) image disk s ≡ get_or image s []
-seen_empty area n image disk s inside = rw (has-no_block n (s / area.block)) (rw (lt_true s area.image inside) refl)
+seen_empty : (area : Area) (n : ℕ) (image disk : List (List ℕ)) (s : ℕ) → s < area.image → sector_seen area (empty_set n) image disk s ≡ get_or image s []
+seen_empty area n image disk s inside = rw (has-empty_set n (s / area.block)) (rw (lt_true s area.image inside) refl)
 
 -- a sector behind the image is the disk's
 seen_behind : (area : Area) (set : List Bool) (image disk : List (List ℕ)) (s : ℕ) → area.image ≤ s → sector_seen area set image disk s ≡ get_or disk s []
 seen_behind area set image disk s past = rw (lt_false s area.image past) refl
 
 joined : (a r n s : ℕ) (image disk : List (List ℕ)) (area : Area) → area.image ≡ a → length image ≡ a → s < r
-    → get_or (image ++ drop a (take r disk)) s [] ≡ sector_seen area (no_block n) image disk s
+    → get_or (image ++ drop a (take r disk)) s [] ≡ sector_seen area (empty_set n) image disk s
 joined a r n s image disk area e long below = elim (cases_lt s a) [
   | inl inside ↦ get_or_append_left image (drop a (take r disk)) [] s (omega arith) ∙ sym (seen_empty area n image disk s (omega arith))
   | inr past ↦
       let place : a + (s - a) ≡ s = omega arith in
       get_or-append_right image (drop a (take r disk)) a s [] long past ∙ get_or-drop a (take r disk) (s - a) []
-      ∙ ap (λ i. get_or (take r disk) i []) place ∙ get_or-take r disk s [] below ∙ sym (seen_behind area (no_block n) image disk s (omega arith))
+      ∙ ap (λ i. get_or (take r disk) i []) place ∙ get_or-take r disk s [] below ∙ sym (seen_behind area (empty_set n) image disk s (omega arith))
 ]
 
 joined_length : (a r : ℕ) (image disk : List (List ℕ)) → length image ≡ a → a ≤ r → r ≤ length disk → length (image ++ drop a (take r disk)) ≡ r
@@ -137,6 +137,6 @@ pub fresh_view : (area : Area) (id : ℕ) (image disk : List (List ℕ)) → IsS
 fresh_view area id image disk suitable long none =
     let (behind, within) = bounds area suitable in
     ap (λ set. map (sector_seen area set image disk) (range_with_len 0 (reserved_of area))) (none_stored area id disk none)
-    ∙ sym (fill_by_all (sector_seen area (no_block (blocks_of area)) image disk) (image ++ drop area.image (take (reserved_of area) disk)) (reserved_of area) []
+    ∙ sym (fill_by_all (sector_seen area (empty_set (blocks_of area)) image disk) (image ++ drop area.image (take (reserved_of area) disk)) (reserved_of area) []
     (joined_length area.image (reserved_of area) image disk long.image_sectors behind (omega arith))
     (λ s below. joined area.image (reserved_of area) (blocks_of area) s image disk area refl long.image_sectors below))

@@ -2,7 +2,7 @@
 use Rattle.std.specs.Prelude.{ℕ, ◌≡◌, Bool, true, List, length, slice_set}
 use Rattle.std.specs.Int.{div_ceil}
 use Rattle.fill_bitmap.specs.declared.area.TheConstants.{BLOCKS_OF_SECTOR}
-use Rattle.fill_bitmap.specs.BlockSet.{no_block, IsWithin, with_sector}
+use Rattle.fill_bitmap.specs.BlockSet.{empty_set, IsWithin, with_sector}
 
 -- the stored, the frozen and the filled blocks (own)
 pub record Sets : Type 0 where
@@ -30,8 +30,8 @@ pub record IsNested (s : Sets) : Type 0 where
   pub frozen_filled : IsWithin s.frozen s.filled
 
 -- none of so many blocks is in any of the sets
-abbrev pub no_blocks : ℕ → Sets
-no_blocks blocks = these_sets (no_block blocks) (no_block blocks) (no_block blocks)
+abbrev pub empty_sets : ℕ → Sets
+empty_sets blocks = these_sets (empty_set blocks) (empty_set blocks) (empty_set blocks)
 
 -- block `b` is filled as well
 abbrev pub with_filled : ℕ → Sets → Sets

@@ -10,8 +10,8 @@ abbrev pub has : List Bool → ℕ → Bool
 has set b = slice_index_or set b false
 
 -- a set of none of so many blocks
-abbrev pub no_block : ℕ → List Bool
-no_block blocks = replicate blocks false
+abbrev pub empty_set : ℕ → List Bool
+empty_set blocks = replicate blocks false
 
 -- a set that has every block
 abbrev pub IsWhole : List Bool → Type 0

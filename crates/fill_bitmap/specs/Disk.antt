@@ -7,7 +7,7 @@ use Rattle.fill_bitmap.specs.declared.area.Area.{Area}
 use Rattle.fill_bitmap.specs.declared.area.TheConstants.{BLOCKS_OF_SECTOR}
 use Rattle.fill_bitmap.specs.Area.{blocks_of, bitmap_sectors_of, reserved_of}
 use Rattle.fill_bitmap.specs.Bits.{has_bit, sector_of}
-use Rattle.fill_bitmap.specs.BlockSet.{has, no_block, with_sector}
+use Rattle.fill_bitmap.specs.BlockSet.{has, empty_set, with_sector}
 
 -- sector `s` of a list of sectors
 abbrev pub sector_at : ℕ → List (List ℕ) → List ℕ
@@ -38,7 +38,7 @@ says_stored area disk b = has_bit (bitmap_sector area disk (b / BLOCKS_OF_SECTOR
 abbrev pub stored_blocks : Area → ℕ → List (List ℕ) → List Bool
 stored_blocks area id disk =
     if has_header area id disk then map (says_stored area disk) (range_with_len 0 (blocks_of area))
-    else no_block (blocks_of area)
+    else empty_set (blocks_of area)
 
 -- a set to which the first so many sectors of a disk's bitmap were added, in order (own)
 abbrev pub with_sectors : ℕ → Area → List (List ℕ) → List Bool → List Bool

@@ -3,7 +3,7 @@
 ghost use Rattle.std.specs.Prelude.{◌≡◌, ℕ, ◌/◌, ◌<◌, ◌≤◌, ◌↔◌, false, IfOk, IfSome, IsNone, IsTrue};
 ghost use Rattle.fill_bitmap.specs.Bits.{has_bit, sector_of};
 ghost use Rattle.fill_bitmap.specs.BlockSet.{IsWhole, has, next_outside};
-ghost use Rattle.fill_bitmap.specs.Bitmap.{IsNested, blocks_in, sectors_in, no_blocks, with_filled, loaded, frozen_now, frozen_stored};
+ghost use Rattle.fill_bitmap.specs.Bitmap.{IsNested, blocks_in, sectors_in, empty_sets, with_filled, loaded, frozen_now, frozen_stored};
 
 use crate::area::BLOCKS_OF_SECTOR;
 use crate::block_set::BlockSet;
@@ -36,7 +36,7 @@ impl Model for Bitmap {
 impl Bitmap {
     /// The bitmap of an image of so many blocks, none of them in any set. It fails only for want of memory.
     pub fn new(alloc: Global, blocks: u32) -> Result<Bitmap, AllocError>
-        ensures empty { IfOk result (λ bitmap. bitmap ≡ no_blocks blocks) }
+        ensures empty { IfOk result (λ bitmap. bitmap ≡ empty_sets blocks) }
         ensures nested { IfOk result IsNested }
     {
         Ok(Bitmap {
@@ -48,7 +48,7 @@ impl Bitmap {
 
     /// Takes every block out of all three sets, as at power-on.
     pub fn clear(&mut self)
-        ensures empty { self.new ≡ no_blocks (blocks_in self.old) }
+        ensures empty { self.new ≡ empty_sets (blocks_in self.old) }
         ensures count { blocks_in self.new ≡ blocks_in self.old }
         ensures nested { IsNested self.new }
     {

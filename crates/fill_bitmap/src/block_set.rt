@@ -2,7 +2,7 @@
 
 ghost use Rattle.std.specs.Prelude.{◌≡◌, ◌<◌, ◌≤◌, ◌*◌, ◌^◌, ◌↔◌, true, not, length, position, slice_set, IfOk, IfSome, IsTrue};
 ghost use Rattle.fill_bitmap.specs.Bits.{has_bit, byte_from, sector_of};
-ghost use Rattle.fill_bitmap.specs.BlockSet.{IsWhole, has, no_block, with_sector, first_outside, next_outside};
+ghost use Rattle.fill_bitmap.specs.BlockSet.{IsWhole, has, empty_set, with_sector, first_outside, next_outside};
 
 use crate::area::BLOCKS_OF_SECTOR;
 use std::alloc::{AllocError, Global};
@@ -30,7 +30,7 @@ impl Model for BlockSet {
 impl BlockSet {
     // A set of none of so many blocks. It fails only for want of memory.
     pub(crate) fn none(alloc: Global, blocks: u32) -> Result<BlockSet, AllocError>
-        ensures { IfOk result (λ set. set ≡ no_block blocks) }
+        ensures empty { IfOk result (λ set. set ≡ empty_set blocks) }
     {
         Ok(BlockSet {
             blocks: vec![in alloc; false; blocks as usize]?,
@@ -39,7 +39,7 @@ impl BlockSet {
 
     // Takes every block out.
     pub(crate) fn clear(&mut self)
-        ensures { self.new ≡ no_block (length self.old) }
+        ensures empty { self.new ≡ empty_set (length self.old) }
     {
         self.blocks.fill(false);
     }
@@ -47,34 +47,34 @@ impl BlockSet {
     // Takes the blocks of another set in place of its own.
     pub(crate) fn copy_from(&mut self, other: &BlockSet)
         requires { length self.old ≡ length other.now }
-        ensures { self.new ≡ other.now }
+        ensures copied { self.new ≡ other.now }
     {
         self.blocks.copy_from_slice(&other.blocks);
     }
 
     pub(crate) fn insert(&mut self, b: u32)
         requires { b < length self.old }
-        ensures { self.new ≡ slice_set self.old b true }
+        ensures inserted { self.new ≡ slice_set self.old b true }
     {
         self.blocks[b as usize] = true;
     }
 
     pub(crate) fn has(&self, b: u32) -> bool
         requires { b < length self.now }
-        ensures { result ≡ has self.now b }
+        ensures answer { result ≡ has self.now b }
     {
         self.blocks[b as usize]
     }
 
     pub(crate) fn is_whole(&self) -> bool
-        ensures { IsTrue result ↔ IsWhole self.now }
+        ensures answer { IsTrue result ↔ IsWhole self.now }
     {
         self.blocks.iter().all(|held| *held)
     }
 
     // Whether another set has the same blocks.
     pub(crate) fn is_same(&self, other: &BlockSet) -> bool
-        ensures { IsTrue result ↔ (self.now ≡ other.now) }
+        ensures answer { IsTrue result ↔ (self.now ≡ other.now) }
     {
         self.blocks == other.blocks
     }
@@ -82,7 +82,7 @@ impl BlockSet {
     // The first block from `b` on that the set lacks, else the first from 0 on.
     pub(crate) fn next_outside(&self, b: u32) -> Option<u32>
         requires { b ≤ length self.now }
-        ensures { result ≡ next_outside b self.now }
+        ensures next { result ≡ next_outside b self.now }
     {
         match first_outside(&self.blocks, b as usize) {
             Some(found) => Some(found),
@@ -92,7 +92,7 @@ impl BlockSet {
 
     // Adds the blocks whose bits are set in the bitmap's sector `k`.
     pub(crate) fn add_sector(&mut self, k: u32, sector: &[u8; 512])
-        ensures { self.new ≡ with_sector k sector.now self.old }
+        ensures added { self.new ≡ with_sector k sector.now self.old }
     {
         let first = k as usize * SECTOR_BITS;
         let end = self.blocks.len().min(first + SECTOR_BITS);
@@ -103,7 +103,7 @@ impl BlockSet {
 
     // Fills `into` with the bytes of the bitmap's sector `k`. Bits past the last block are 0.
     pub(crate) fn put_sector(&self, k: u32, into: &mut [u8; 512])
-        ensures { into.new ≡ sector_of k self.now }
+        ensures bytes { into.new ≡ sector_of k self.now }
     {
         let first = k as usize * SECTOR_BITS;
         for (i, byte) in into.iter_mut().enumerate() {
@@ -114,7 +114,7 @@ impl BlockSet {
 
 // Whether the sector of the bitmap that holds block `b` has its bit set.
 fn is_bit_set(sector: &[u8; 512], b: usize) -> bool
-    ensures { result ≡ has_bit sector.now b }
+    ensures answer { result ≡ has_bit sector.now b }
 {
     sector[b % SECTOR_BITS / 8] >> (b % 8) & 1 == 1
 }
@@ -122,7 +122,7 @@ fn is_bit_set(sector: &[u8; 512], b: usize) -> bool
 // The byte of the eight blocks from `b` on, the lowest bit first. Bits past the last block are 0.
 fn byte_at(blocks: &[bool], b: usize) -> u8
     requires { b < 2 ^ 60 }
-    ensures { result ≡ byte_from b blocks.now }
+    ensures byte { result ≡ byte_from b blocks.now }
 {
     let mut byte = 0;
     for i in (0..8usize).rev() {
@@ -133,7 +133,7 @@ fn byte_at(blocks: &[bool], b: usize) -> u8
 
 // Whether block `b` is in the set; one past the last isn't.
 fn holds(blocks: &[bool], b: usize) -> bool
-    ensures { result ≡ has blocks.now b }
+    ensures answer { result ≡ has blocks.now b }
 {
     blocks.get(b).copied().unwrap_or(false)
 }
@@ -142,7 +142,7 @@ fn holds(blocks: &[bool], b: usize) -> bool
 fn first_outside(blocks: &[bool], b: usize) -> Option<u32>
     requires room { b ≤ length blocks.now }
     requires few { length blocks.now < 2 ^ 32 }
-    ensures { result ≡ first_outside b blocks.now }
+    ensures first { result ≡ first_outside b blocks.now }
 {
     let at = first_missing(&blocks[b..])?;
     Some((b + at) as u32)

@@ -3,7 +3,7 @@
 ghost use Rattle.std.specs.Prelude.{◌≡◌, ◌++◌, ℕ, Bool, List, length, take, drop};
 ghost use Rattle.fill_bitmap.specs.declared.area.Area.{Area};
 ghost use Rattle.fill_bitmap.specs.Area.{IsSuitable, blocks_of, bitmap_sectors_of, reserved_of};
-ghost use Rattle.fill_bitmap.specs.BlockSet.{no_block};
+ghost use Rattle.fill_bitmap.specs.BlockSet.{empty_set};
 ghost use Rattle.fill_bitmap.specs.Disk.{header_of, HasHeader, stored_blocks, with_sectors, guest_view, HoldsSet, HaveLengths};
 
 /// A header is as long as a sector, whatever the area and the run.
@@ -21,7 +21,7 @@ pub fn written_sectors_store_their_set()
 /// the header.
 pub fn added_sectors_give_the_stored_blocks()
     ensures { (area : Area) (id : ℕ) (disk : List (List ℕ)) → HasHeader area id disk →
-        with_sectors (bitmap_sectors_of area) area disk (no_block (blocks_of area))
+        with_sectors (bitmap_sectors_of area) area disk (empty_set (blocks_of area))
         ≡ stored_blocks area id disk }
 {}
 

@@ -1,8 +1,10 @@
-//! The area of an image on a disk: its blocks, the sectors that the monitor reserves behind it, and which lengths
-//! of image and disk are suitable for both.
+//! The image on the disk: its blocks, the sectors that the monitor reserves behind it, which lengths of image and
+//! disk are suitable for both, and the bitmap that says which blocks are on the disk.
 //!
-//! Start with `Area`, then `area_of`, which makes one of two lengths in bytes. `specs/Area.antt` says what each
-//! size is and which areas are suitable, `specs/Lengths.antt` why lengths are refused.
+//! Start with `Area`, then `area_of`, which makes one of two lengths in bytes, then `Bitmap`. `specs/Area.antt` says
+//! what each size is, `specs/Lengths.antt` why lengths are refused, `specs/Bitmap.antt` what the bitmap's sets are,
+//! `specs/Bits.antt` the bytes of its sectors, and `specs/Disk.antt` what a disk with them says and shows.
+//! `docs/monitor.md` has the same as tables.
 
 #![tactic(auto)]
 
