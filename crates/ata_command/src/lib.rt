@@ -5,34 +5,56 @@
 
 #![tactic(auto)]
 
-ghost use Rattle.std.specs.Prelude.{◌≡◌, ◌+◌, ◌<◌, ◌^◌, false, Some};
-ghost use Rattle.ata_taskfile.specs.Order.{order_in, order_of, first_28, count_8, names_sectors, within};
+ghost use Rattle.std.specs.Prelude.{◌≡◌, ◌+◌, ◌<◌, ◌≤◌, ◌^◌, false, true, Some};
+ghost use Rattle.ata_taskfile.specs.Order.{inputs, has_range, narrow, wide, count_without_range, order_in, order_of, first_28, first_48, count_or, count_8, count_16, names_sectors, has_feature, within};
 
 #[cfg(test)]
 mod tests;
 
-use ata_taskfile::registers::LBA;
+use ata_taskfile::registers::{LBA, has_bit};
 use ata_taskfile::{Form, Kind, Refused, Request, TaskFile};
 
-/// The order that the byte `command` gives over the registers of `file`, on a drive of `sectors` sectors.
+/// The order that the byte `command` gives over the registers of `file`, on a drive of `sectors` sectors, or the
+/// first of its refusals: `Abort` for a command that the drive doesn't have or not with these registers, then
+/// `NotFound` for sectors that aren't all on the drive.
 ///
-/// Sector Count 0 means 256 (ATA/ATAPI-6, READ SECTOR(S)). `Abort` comes before `NotFound`.
+/// A count of 0 means 256, and 65,536 in an extended command (ATA/ATAPI-6, READ SECTOR(S) and READ SECTOR(S) EXT).
 pub fn read_request(file: &TaskFile, command: u8, sectors: u64) -> Result<Request, Refused>
-    ensures { result ≡ order_of command file.now sectors }
+    ensures { result ≡ order_of command (inputs file.now) sectors }
 {
     match command {
-        // READ SECTOR(S)
-        0x20 => ranged(file, Kind::Read, Form::PioIn, sectors),
+        // READ SECTOR(S), EXT
+        0x20 => in_28_bits(file, Kind::Read, Form::PioIn, sectors),
+        0x24 => in_48_bits(file, Kind::Read, Form::PioIn, sectors),
+        // READ DMA, EXT
+        0xc8 => in_28_bits(file, Kind::Read, Form::DmaIn, sectors),
+        0x25 => in_48_bits(file, Kind::Read, Form::DmaIn, sectors),
+        // WRITE SECTOR(S), EXT
+        0x30 => in_28_bits(file, Kind::Write, Form::PioOut, sectors),
+        0x34 => in_48_bits(file, Kind::Write, Form::PioOut, sectors),
+        // WRITE DMA, EXT
+        0xca => in_28_bits(file, Kind::Write, Form::DmaOut, sectors),
+        0x35 => in_48_bits(file, Kind::Write, Form::DmaOut, sectors),
+        // READ VERIFY SECTOR(S), EXT
+        0x40 => in_28_bits(file, Kind::Verify, Form::NoMove, sectors),
+        0x42 => in_48_bits(file, Kind::Verify, Form::NoMove, sectors),
+        // FLUSH CACHE, EXT
+        0xe7 => without_range(Kind::Flush, Form::NoMove, false, sectors),
+        0xea => without_range(Kind::Flush, Form::NoMove, true, sectors),
+        // IDENTIFY DEVICE
+        0xec => without_range(Kind::Identify, Form::PioIn, false, sectors),
+        // SET FEATURES
+        0xef => set_features(file, sectors),
         _ => Err(Refused::Abort),
     }
 }
 
 // The order of a command over a range of sectors, named in 28 bits.
-fn ranged(file: &TaskFile, kind: Kind, form: Form, sectors: u64) -> Result<Request, Refused>
-    ensures { result
-        ≡ order_in (Some (record { kind = kind; form = form; extended = false })) file.now sectors }
+fn in_28_bits(file: &TaskFile, kind: Kind, form: Form, sectors: u64) -> Result<Request, Refused>
+    requires { has_range kind ≡ true }
+    ensures { result ≡ order_in (narrow kind form) (inputs file.now) sectors }
 {
-    if !names_sectors(file) {
+    if !has_bit(LBA, file.device) {
         return Err(Refused::Abort);
     }
     within(
@@ -47,23 +69,97 @@ fn ranged(file: &TaskFile, kind: Kind, form: Form, sectors: u64) -> Result<Reque
     )
 }
 
-fn names_sectors(file: &TaskFile) -> bool
-    ensures { result ≡ names_sectors file.now }
+// The order of a command over a range of sectors, named in 48 bits.
+fn in_48_bits(file: &TaskFile, kind: Kind, form: Form, sectors: u64) -> Result<Request, Refused>
+    requires { has_range kind ≡ true }
+    ensures { result ≡ order_in (wide kind form) (inputs file.now) sectors }
 {
-    file.device & LBA != 0
+    within(
+        sectors,
+        Request {
+            kind,
+            form,
+            extended: true,
+            first: first_48(file),
+            count: count_16(file),
+        },
+    )
+}
+
+fn set_features(file: &TaskFile, sectors: u64) -> Result<Request, Refused>
+    ensures { result ≡ order_in (narrow Kind.Features Form.NoMove) (inputs file.now) sectors }
+{
+    match file.features {
+        2 | 3 => without_range(Kind::Features, Form::NoMove, false, sectors),
+        _ => Err(Refused::Abort),
+    }
+}
+
+// A command without a range has no first sector, and no count but that of the block of IDENTIFY DEVICE.
+fn without_range(kind: Kind, form: Form, extended: bool, sectors: u64) -> Result<Request, Refused>
+    requires { has_range kind ≡ false }
+    ensures { result ≡ within sectors (record {
+      kind = kind;
+      form = form;
+      extended = extended;
+      first = 0;
+      count = count_without_range kind;
+    }) }
+{
+    let count = match kind {
+        Kind::Identify => 1,
+        _ => 0,
+    };
+    within(
+        sectors,
+        Request {
+            kind,
+            form,
+            extended,
+            first: 0,
+            count,
+        },
+    )
 }
 
 fn first_28(file: &TaskFile) -> u32
-    ensures { result ≡ first_28 file.now }
+    ensures { result ≡ first_28 (inputs file.now) }
 {
     u32::from_le_bytes([file.low[0], file.mid[0], file.high[0], file.device & 0x0f])
 }
 
+fn first_48(file: &TaskFile) -> u64
+    ensures value { result ≡ first_48 (inputs file.now) }
+    ensures width { result < 2 ^ 48 }
+{
+    u64::from_le_bytes([
+        file.low[0],
+        file.mid[0],
+        file.high[0],
+        file.low[1],
+        file.mid[1],
+        file.high[1],
+        0,
+        0,
+    ])
+}
+
 fn count_8(file: &TaskFile) -> u32
-    ensures { result ≡ count_8 file.now }
+    ensures value { result ≡ count_8 (inputs file.now) }
+    ensures most { result ≤ 256 }
 {
     match file.count[0] {
         0 => 256,
+        count => count as u32,
+    }
+}
+
+fn count_16(file: &TaskFile) -> u32
+    ensures value { result ≡ count_16 (inputs file.now) }
+    ensures most { result ≤ 65536 }
+{
+    match u16::from_le_bytes(file.count) {
+        0 => 65_536,
         count => count as u32,
     }
 }

@@ -1,9 +1,147 @@
--- What every device keeps of the command in hand.
-use Rattle.std.specs.Prelude.{ℕ, ◌+◌, ◌<◌, ◌≤◌}
+-- What every device keeps: of its registers, of the command in hand, and of the block in Data.
+use Rattle.std.specs.Prelude.{ℕ, Bool, true, false, not, ◌≡◌, ◌&&◌, ◌||◌, ◌==◌, ◌+◌, ◌-◌, ◌%◌, ◌<◌, ◌≤◌, if◌then◌else◌, bit_and, Option, Some, None, is_some, length}
+use Rattle.ata_taskfile.specs.declared.Kind.{Kind}
+use Rattle.ata_taskfile.specs.declared.Kind.TheVariants.{Read, Write, Verify, Flush, Identify, Features}
+use Rattle.ata_taskfile.specs.declared.Form.{Form}
+use Rattle.ata_taskfile.specs.declared.Form.TheVariants.{NoMove, PioIn, PioOut, DmaIn, DmaOut}
 use Rattle.ata_taskfile.specs.declared.Taken.{Taken}
 use Rattle.ata_taskfile.specs.declared.Taken.TheVariants.{Good, Bad}
 use Rattle.ata_taskfile.specs.declared.Phase.{Phase}
 use Rattle.ata_taskfile.specs.declared.Phase.TheVariants.{Reset, Idle, Busy, Ready}
+use Rattle.ata_taskfile.specs.declared.task_file.TaskFile.{TaskFile}
+use Rattle.ata_taskfile.specs.declared.bus_master.Bus.{Bus}
+use Rattle.ata_taskfile.specs.declared.registers.TheConstants.{SRST, DEV}
+use Rattle.ata_taskfile.specs.TaskFile.{has_bit}
+use Rattle.ata_taskfile.specs.Order.{has_range, count_without_range}
+use Rattle.ata_taskfile.specs.Data.{gives_words, takes_words, moves_by_bus, left_in}
+use Rattle.ata_taskfile.specs.Device.{Device, is_moving}
+
+-- the drive is in reset
+abbrev pub is_in_reset : Phase → Bool
+is_in_reset Reset = true
+is_in_reset Idle = false
+is_in_reset (Busy taken done) = false
+is_in_reset (Ready taken done left) = false
+
+-- a command is in hand
+abbrev pub has_order : Phase → Bool
+has_order Reset = false
+has_order Idle = false
+has_order (Busy taken done) = true
+has_order (Ready taken done left) = true
+
+-- how many sectors of the order in hand are done; 0 without one
+abbrev pub position_of : Phase → ℕ
+position_of Reset = 0
+position_of Idle = 0
+position_of (Busy taken done) = done
+position_of (Ready taken done left) = done
+
+-- a command was taken, and the drive has made no step since
+abbrev pub is_fresh : Phase → Bool
+is_fresh Reset = false
+is_fresh Idle = false
+is_fresh (Busy taken done) = done == 0
+is_fresh (Ready taken done left) = false
+
+-- how many sectors a running walk has moved; 0 without one
+abbrev pub moved_by : Option ℕ → ℕ
+moved_by None = 0
+moved_by (Some moved) = moved
+
+-- how many sectors a walk may have moved: those that are done of a command that the bus master moves
+abbrev pub movable_in : Phase → ℕ
+movable_in phase = if is_moving phase then position_of phase else 0
+
+-- a command without data
+abbrev pub moves_nothing : Form → Bool
+moves_nothing NoMove = true
+moves_nothing PioIn = false
+moves_nothing PioOut = false
+moves_nothing DmaIn = false
+moves_nothing DmaOut = false
+
+-- a form in which a command of this kind moves its data
+abbrev pub moves_in : Kind → Form → Bool
+moves_in Read form = gives_words form || moves_by_bus form
+moves_in Write form = takes_words form || moves_by_bus form
+moves_in Verify form = moves_nothing form
+moves_in Flush form = moves_nothing form
+moves_in Identify form = gives_words form
+moves_in Features form = moves_nothing form
+
+-- how many words are left of a block in Ready; 1 outside of it, where none need be
+abbrev pub some_left_in : Phase → ℕ
+some_left_in Reset = 1
+some_left_in Idle = 1
+some_left_in (Busy taken done) = 1
+some_left_in (Ready taken done left) = left
+
+-- the count that a kind of command has: 1 or more sectors of a range, else the one count without a range
+abbrev pub has_count : Kind → ℕ → Bool
+has_count kind count = if has_range kind then not (count == 0) else count == count_without_range kind
+
+-- an order in hand is one that the table of commands can give
+abbrev pub is_possible : Taken → Bool
+is_possible (Good order) = moves_in order.kind order.form && has_count order.kind order.count
+is_possible (Bad reason) = true
+
+-- the order in hand, if there is one, is possible
+abbrev pub has_possible_order : Phase → Bool
+has_possible_order Reset = true
+has_possible_order Idle = true
+has_possible_order (Busy taken done) = is_possible taken
+has_possible_order (Ready taken done left) = is_possible taken
+
+-- the positions at which the drive is at work on so many sectors lie below this one: behind the last sector a written block or a transfer has still to end
+abbrev pub work_end : Form → ℕ → ℕ
+work_end NoMove count = 1
+work_end PioIn count = count
+work_end PioOut count = count + 1
+work_end DmaIn count = count + 1
+work_end DmaOut count = count + 1
+
+-- the positions at which a block waits in Data, or is wanted there, lie below this one
+abbrev pub wait_end : Form → ℕ → ℕ
+wait_end NoMove count = 0
+wait_end PioIn count = count
+wait_end PioOut count = count
+wait_end DmaIn count = 0
+wait_end DmaOut count = 0
+
+-- the positions of a phase lie below this one
+abbrev pub position_end : Phase → ℕ
+position_end Reset = 1
+position_end Idle = 1
+position_end (Busy (Good order) done) = work_end order.form order.count
+position_end (Busy (Bad reason) done) = 1
+position_end (Ready (Good order) done left) = wait_end order.form order.count
+position_end (Ready (Bad reason) done left) = 0
+
+-- a phase as every device has it (own)
+pub record IsLawfulPhase (phase : Phase) : Type 0 where
+  pub possible : has_possible_order phase ≡ true
+  pub goes_on : position_of phase < position_end phase
+  pub some_left : 0 < some_left_in phase
+  pub most_left : left_in phase ≤ 256
+
+-- registers and bus master as every device has them, by what the rules look at (own)
+pub record AreLawful (control device error : ℕ) (failed pending : Bool) (phase : Phase) (b : Bus) : Type 0 where
+  pub kept : bit_and control 134 ≡ control
+  pub held : has_bit SRST control ≡ true → is_in_reset phase ≡ true
+  pub no_error : has_order phase ≡ true → error ≡ 0
+  pub not_failed : has_order phase ≡ true → failed ≡ false
+  pub selected : is_fresh phase ≡ true → has_bit DEV device ≡ false
+  pub acknowledged : is_fresh phase ≡ true → pending ≡ false
+  pub goes_on : IsLawfulPhase phase
+  pub pointer : b.pointer % 4 ≡ 0
+  pub active : b.active ≡ true → b.start ≡ true
+  pub walking : is_some b.walk ≡ true → b.active ≡ true
+  pub moved : moved_by b.walk ≤ movable_in phase
+
+-- a task file and a bus master as every device has them: Device Control has no bits but HOB, SRST and nIEN, and SRST in reset alone; a command in hand has no Error and isn't failed, and one that was just taken has DEV at 0 and no interrupt; the pointer is a multiple of 4; only start lets active be 1, and only active a walk run; a walk has moved no more than its command has done
+abbrev pub HasLawfulRegisters : TaskFile → Bus → Type 0
+HasLawfulRegisters f b = AreLawful f.control f.device f.error f.failed f.pending f.phase b
 
 -- the sector after the last one of an order; 0 of a refused one
 abbrev pub end_in : Taken → ℕ
@@ -17,43 +155,21 @@ end_of Idle = 0
 end_of (Busy taken done) = end_in taken
 end_of (Ready taken done left) = end_in taken
 
--- how many sectors an order has; of a refused one, one more than are done
-abbrev pub count_in : Taken → ℕ → ℕ
-count_in (Good order) done = order.count
-count_in (Bad reason) done = done + 1
+-- how many words the block has: all 256 where it is given or was taken whole, those that came where it is wanted, else as many as it has
+abbrev pub words_in : Phase → ℕ → ℕ
+words_in Reset words = words
+words_in Idle words = words
+words_in (Busy (Good order) done) words = if takes_words order.form && not (done == 0) then 256 else words
+words_in (Busy (Bad reason) done) words = words
+words_in (Ready (Good order) done left) words = if takes_words order.form then 256 - left else 256
+words_in (Ready (Bad reason) done left) words = words
 
--- how many sectors the order in hand has; 1 without one
-abbrev pub count_of : Phase → ℕ
-count_of Reset = 1
-count_of Idle = 1
-count_of (Busy taken done) = count_in taken done
-count_of (Ready taken done left) = count_in taken done
+-- registers, bus master, block of so many words and count of sectors as every device has them
+pub record IsLawfulState (f : TaskFile) (b : Bus) (words sectors : ℕ) : Type 0 where
+  pub registers : HasLawfulRegisters f b
+  pub within : end_of f.phase ≤ sectors
+  pub block : words ≡ words_in f.phase words
 
--- how many sectors of the order in hand are done; 0 without one
-abbrev pub position_of : Phase → ℕ
-position_of Reset = 0
-position_of Idle = 0
-position_of (Busy taken done) = done
-position_of (Ready taken done left) = done
-
--- how many words of the block are left in Data; a whole block outside of Ready
-abbrev pub left_of : Phase → ℕ
-left_of Reset = 256
-left_of Idle = 256
-left_of (Busy taken done) = 256
-left_of (Ready taken done left) = left
-
--- how many words the block must have: all of them in Ready
-abbrev pub loaded_of : Phase → ℕ
-loaded_of Reset = 0
-loaded_of Idle = 0
-loaded_of (Busy taken done) = 0
-loaded_of (Ready taken done left) = 256
-
--- a phase as a device of so many sectors has it, whose block has so many words (own)
-pub record IsLawful (phase : Phase) (sectors words : ℕ) : Type 0 where
-  pub within : end_of phase ≤ sectors
-  pub goes_on : position_of phase < count_of phase
-  pub some_left : 0 < left_of phase
-  pub most_left : left_of phase ≤ 256
-  pub is_loaded : loaded_of phase ≤ words
+-- a device as every one is
+abbrev pub IsLawful : Device → Type 0
+IsLawful d = IsLawfulState d.file d.bus (length d.block) d.sectors

@@ -11,21 +11,25 @@ use Rattle.ata_taskfile.specs.declared.Wrote.TheVariants.{Stored, Ignored, Comma
 use Rattle.ata_taskfile.specs.declared.task_file.TaskFile.{TaskFile}
 use Rattle.ata_taskfile.specs.declared.registers.TheConstants.{HOB, SRST, NIEN, DEV, IDNF, ABRT}
 
+-- a bit of a byte is 1
+abbrev pub has_bit : ℕ → ℕ → Bool
+has_bit bit byte = not (bit_and byte bit == 0)
+
 -- HOB is 1: a two-byte register shows its previous byte (ATA/ATAPI-6, Device Control register)
 abbrev pub shows_previous : TaskFile → Bool
-shows_previous f = not (bit_and f.control HOB == 0)
+shows_previous f = has_bit HOB f.control
 
 -- SRST is 1: the device is held in reset (ATA/ATAPI-6, Device Control register)
 abbrev pub holds_reset : TaskFile → Bool
-holds_reset f = not (bit_and f.control SRST == 0)
+holds_reset f = has_bit SRST f.control
 
 -- nIEN is 1: the line stays low (ATA/ATAPI-6, Device Control register)
 abbrev pub masks_line : TaskFile → Bool
-masks_line f = not (bit_and f.control NIEN == 0)
+masks_line f = has_bit NIEN f.control
 
 -- DEV is 1: the second device is meant, which isn't there (ATA/ATAPI-6, Device register)
 abbrev pub selects_absent : TaskFile → Bool
-selects_absent f = not (bit_and f.device DEV == 0)
+selects_absent f = has_bit DEV f.device
 
 -- the interrupt line: high where an interrupt pends that nIEN doesn't mask (ATA/ATAPI-6, INTRQ)
 abbrev pub line : TaskFile → Bool
@@ -130,7 +134,7 @@ in_reset (Ready taken done left) f = record f { phase = Reset; pending = false }
 
 -- after a Device Control write: HOB, SRST and nIEN are kept, and SRST at 1 begins a reset (ATA/ATAPI-6, Device Control register)
 abbrev pub controlled : ℕ → TaskFile → TaskFile
-controlled v f = if bit_and v SRST == 0 then record f { control = bit_and v 134 } else in_reset f.phase (record f { control = bit_and v 134 })
+controlled v f = if has_bit SRST v then in_reset f.phase (record f { control = bit_and v 134 }) else record f { control = bit_and v 134 }
 
 -- after a write that is taken; a command's byte is kept, and Error, the failed mark and the interrupt go
 abbrev pub stored : Reg → ℕ → TaskFile → TaskFile
@@ -159,7 +163,7 @@ control_wrote (Ready taken done left) = ResetBegun
 -- what a write that is taken did
 abbrev pub stored_as : Reg → ℕ → TaskFile → Wrote
 stored_as reg.Status v f = Command v
-stored_as reg.Alternate v f = if bit_and v SRST == 0 then Stored else control_wrote f.phase
+stored_as reg.Alternate v f = if has_bit SRST v then control_wrote f.phase else Stored
 stored_as reg.Error v f = Stored
 stored_as reg.Count v f = Stored
 stored_as reg.Low v f = Stored

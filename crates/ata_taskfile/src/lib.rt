@@ -1,21 +1,26 @@
 //! One ATA device as its host sees it: the register file, the phase of the command in hand, and the trait
 //! `Ports`, by which every other crate reaches a device.
 //!
-//! Start with the enums below, then `registers` for the bits, `task_file` for the calls and `ports` for the
-//! trait. `specs/TaskFile.antt` says what each call does to the registers, `specs/Device.antt` what it does to
-//! the whole device, and `specs/Order.antt` which order a command byte gives. `docs/drive.md` has the same rules
-//! as tables.
+//! Start with the enums below, then `registers` for the bits, `task_file` and `bus_master` for the calls and `ports` for
+//! the trait. `specs/TaskFile.antt` and `specs/Bus.antt` say what each call does to the registers,
+//! `specs/Device.antt` what an access does to the whole device, `specs/Order.antt` which order a command byte gives,
+//! and `specs/Lawful.antt` what every device keeps. `docs/drive.md` has the same rules as tables.
 
 #![tactic(auto)]
 
+mod bus_master;
+mod laws;
 mod ports;
 pub mod registers;
 mod task_file;
 #[cfg(test)]
 mod tests;
+mod transfer;
 
-pub use ports::Ports;
-pub use task_file::{Bus, TaskFile};
+pub use bus_master::Bus;
+pub use laws::{accesses_keep_lawful, accesses_move_no_sector, power_on_is_lawful};
+pub use ports::{Ports, perform};
+pub use task_file::TaskFile;
 
 /// A register of the device, by the name under which it is read (ATA/ATAPI-6, I/O registers).
 #[derive(Clone, Copy, Debug, PartialEq, Eq)]

@@ -1,4 +1,8 @@
-//! The bits of the registers (ATA/ATAPI-6, Status, Error, Device and Device Control registers).
+//! The bits of the registers (ATA/ATAPI-6, Status, Error, Device and Device Control registers; Bus Master IDE 1.0,
+//! command and status registers).
+
+ghost use Rattle.std.specs.Prelude.{◌≡◌};
+ghost use Rattle.ata_taskfile.specs.TaskFile.{has_bit};
 
 /// Status: the device is at work, and takes no register but Device Control.
 pub const BSY: u8 = 0x80;
@@ -39,5 +43,27 @@ pub const LBA: u8 = 0x40;
 /// Device: the second device is meant, which isn't there.
 pub const DEV: u8 = 0x10;
 
+/// Bus master command: a walk through the descriptor table begins, or goes on.
+pub const START: u8 = 0x01;
+
+/// Bus master command: the direction, 1 where the drive's bytes go to memory.
+pub const INWARD: u8 = 0x08;
+
+/// Bus master status: a walk was begun, and hasn't come to the table's end.
+pub const ACTIVE: u8 = 0x01;
+
+/// Bus master status: a walk met a descriptor that it can't follow.
+pub const BUS_ERROR: u8 = 0x02;
+
+/// Bus master status: the line rose.
+pub const INTERRUPT: u8 = 0x04;
+
 /// The words of a sector, which is the block that Data moves.
 pub const BLOCK_WORDS: u16 = 256;
+
+/// A bit of a byte is 1.
+pub fn has_bit(bit: u8, byte: u8) -> bool
+    ensures { result ≡ has_bit bit byte }
+{
+    byte & bit != 0
+}

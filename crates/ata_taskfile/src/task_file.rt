@@ -1,9 +1,9 @@
-//! The task file: a device's registers with the phase of its command, and the state of the bus master.
+//! The task file: a device's registers with the phase of its command.
 
 ghost use Rattle.std.specs.Prelude.{◌≡◌, false};
-ghost use Rattle.ata_taskfile.specs.TaskFile.{line, value, after_read, after_write, wrote, power_on, is_of_bus, reset_ended, refused, announced, ended_failed, addressed, shows_previous, holds_reset, masks_line, selects_absent, status, shown, is_at_work, is_ignored, stored_as, controlled, in_reset, control_wrote, has_command};
+ghost use Rattle.ata_taskfile.specs.TaskFile.{has_bit, line, value, after_read, after_write, wrote, power_on, is_of_bus, reset_ended, refused, announced, ended_failed, addressed, shows_previous, holds_reset, masks_line, selects_absent, status, shown, is_at_work, is_ignored, stored_as, controlled, in_reset, control_wrote, has_command};
 
-use crate::registers::{ABRT, BSY, DEV, DRDY, DRQ, DSC, ERR, HOB, IDNF, NIEN, SRST};
+use crate::registers::{ABRT, BSY, DEV, DRDY, DRQ, DSC, ERR, HOB, IDNF, NIEN, SRST, has_bit};
 use crate::{Phase, Refused, Reg, Wrote};
 
 /// The registers of a device, the marks that no register shows, and the phase of the command in hand.
@@ -27,21 +27,6 @@ pub struct TaskFile {
     /// An interrupt pends.
     pub pending: bool,
     pub phase: Phase,
-}
-
-/// The bus master of the primary channel (Bus Master IDE 1.0, registers).
-#[derive(Clone, Copy, Debug, PartialEq, Eq)]
-pub struct Bus {
-    pub start: bool,
-    /// The direction bit, which is kept and not looked at (own).
-    pub inward: bool,
-    pub active: bool,
-    pub error: bool,
-    pub interrupt: bool,
-    /// The byte place of the descriptor table.
-    pub pointer: u32,
-    /// The running walk with the sectors that it moved.
-    pub walk: Option<u32>,
 }
 
 impl TaskFile {
@@ -165,10 +150,11 @@ impl TaskFile {
         ensures after { self.new ≡ controlled v self.old }
     {
         self.control = v & (HOB | SRST | NIEN);
-        if v & SRST == 0 {
-            return Wrote::Stored;
+        if has_bit(SRST, v) {
+            self.begin_reset()
+        } else {
+            Wrote::Stored
         }
-        self.begin_reset()
     }
 
     // SRST was written as 1; within a reset that changes nothing more.
@@ -277,25 +263,25 @@ impl TaskFile {
     fn shows_previous(&self) -> bool
         ensures { result ≡ shows_previous self.now }
     {
-        self.control & HOB != 0
+        has_bit(HOB, self.control)
     }
 
     /// SRST is 1: a reset goes on until it is written as 0 (ATA/ATAPI-6, Device Control register).
     pub fn holds_reset(&self) -> bool
         ensures { result ≡ holds_reset self.now }
     {
-        self.control & SRST != 0
+        has_bit(SRST, self.control)
     }
 
     fn masks_line(&self) -> bool
         ensures { result ≡ masks_line self.now }
     {
-        self.control & NIEN != 0
+        has_bit(NIEN, self.control)
     }
 
     fn selects_absent(&self) -> bool
         ensures { result ≡ selects_absent self.now }
     {
-        self.device & DEV != 0
+        has_bit(DEV, self.device)
     }
 }

@@ -19,7 +19,8 @@ use Rattle.plain_run.specs.Entry.{entry_of, answers_in, plan_in, commands_in}
 use Rattle.plain_drive.specs.Words.{words_read, after_words, bytes_of}
 use Rattle.plain_run.specs.Event.{PlainEvent, FollowsPlan, went}
 use Rattle.plain_run.specs.Run.{DirectEvent}
-use Rattle.plain_run.specs.Taken.{just_taken, is_just_taken, command_item, has_range}
+use Rattle.ata_taskfile.specs.Order.{has_range}
+use Rattle.plain_run.specs.Taken.{just_taken, is_just_taken, command_item}
 
 -- a good step with an effect is one step of the plan
 pub PlainEvent-step : (old new : Plain) → good_step old ≡ new → Changed ≡ stepped_if (acts step.Good old) → PlainEvent old (entry_of (event.Drive step.Good) (item.Go 1 ∷ []) []) new

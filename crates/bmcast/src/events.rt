@@ -7,7 +7,8 @@ ghost use Rattle.plain_run.specs.Entry.{commands_in, entry_of};
 ghost use Rattle.plain_drive.specs.Words.{words_read, after_words, bytes_of};
 ghost use Rattle.plain_run.specs.Event.{PlainEvent};
 ghost use Rattle.plain_run.specs.Run.{DirectEvent};
-ghost use Rattle.plain_run.specs.Taken.{just_taken, is_just_taken, command_item, has_range};
+ghost use Rattle.ata_taskfile.specs.Order.{has_range};
+ghost use Rattle.plain_run.specs.Taken.{just_taken, is_just_taken, command_item};
 ghost use Rattle.schedule_text.specs.Line.{IsInRange};
 
 use ata_taskfile::{Kind, Phase, Ports, Reg, Step, Stepped, Taken, TaskFile};

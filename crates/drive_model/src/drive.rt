@@ -1,9 +1,11 @@
 //! The drive and its steps.
 
-ghost use Rattle.std.specs.Prelude.{◌≡◌, ◌*◌, ◌/◌, ◌%◌, ◌<◌, ℕ, List, length, slice_index, IfOk};
-ghost use Rattle.ata_taskfile.specs.Lawful.{IsLawful};
+ghost use Rattle.std.specs.Prelude.{◌≡◌, ◌+◌, ◌*◌, ◌/◌, ◌%◌, ◌<◌, ◌≤◌, ◌++◌, ◌∷◌, [], ℕ, List, length, slice_index, IfOk, true, false};
+ghost use Rattle.ata_taskfile.specs.Lawful.{has_order, IsLawfulState};
 ghost use Rattle.ata_taskfile.specs.TaskFile.{refused, addressed, ended_failed};
-ghost use Rattle.ata_taskfile.specs.Device.{with_file, powered_on, idle_bus};
+ghost use Rattle.ata_taskfile.specs.Data.{gives_words};
+ghost use Rattle.ata_taskfile.specs.Device.{is_moving, with_file, with_phase, powered_on};
+ghost use Rattle.drive_model.specs.Block.{block_of};
 ghost use Rattle.plain_drive.specs.Plain.{plain, stored, sectors_in, sector_value, durable_value, words_of, HasWholeCells};
 ghost use Rattle.plain_drive.specs.Step.{step_made, good_step, bad_step, stepped, acts, acts_in, stepped_if, proceeded, proceeds, given_up, loaded};
 
@@ -15,14 +17,15 @@ use std::alloc::{AllocError, Global};
 #[derive(Drop)]
 pub struct Drive {
     pub(crate) file: TaskFile,
-    bus: Bus,
+    pub(crate) bus: Bus,
     block: [u8; 512],
-    // How many words of the block are loaded: all 256, or 0 before the first sector.
+    // How many words of the block there are.
     words: u16,
     bytes: Vec<u8>,
     pub(crate) sectors: u64,
     ghost whole: { length bytes.items ≡ 512 * sectors },
-    ghost lawful: { IsLawful file.phase sectors words },
+    ghost counted: { length (block_of block words) ≡ words },
+    ghost lawful: { IsLawfulState file bus words sectors },
 }
 
 impl Drive {
@@ -38,7 +41,7 @@ impl Drive {
     {
         Ok(Drive {
             file: TaskFile::power_on(),
-            bus: idle_bus(),
+            bus: Bus::power_on(),
             block: [0; 512],
             words: 0,
             bytes: Vec::from_slice(alloc, bytes)?,
@@ -115,7 +118,9 @@ impl Drive {
     }
 
     // Ends a reset, unless SRST is still 1.
+    #[tactic(auto, using(ata_taskfile::proofs::Ends::reset_ended_lawful))]
     fn end_reset(&mut self) -> Stepped
+        requires { self.old.file.phase ≡ Phase.Reset }
         ensures after { (memory : List ℕ) → stepped Phase.Reset (plain (device_of self.old) memory)
             ≡ plain (device_of self.new) memory }
         ensures answer { (memory : List ℕ) →
@@ -130,7 +135,10 @@ impl Drive {
         Stepped::Changed
     }
 
+    #[tactic(auto, using(ata_taskfile::proofs::Ends::refused_lawful))]
     fn refuse(&mut self, reason: Refused) -> Stepped
+        requires in_hand { has_order self.old.file.phase ≡ true }
+        requires still { is_moving self.old.file.phase ≡ false }
         ensures after { let d = device_of self.old in
             device_of self.new ≡ with_file (refused reason d.file) d }
         ensures answer { result ≡ Stepped.Changed }
@@ -146,12 +154,16 @@ impl Drive {
         ensures after { (memory : List ℕ) →
             proceeded order.kind order done (plain (device_of self.old) memory)
             ≡ plain (device_of self.new) memory }
-        ensures answer { result ≡ stepped_if (proceeds order.kind) }
+        ensures answer { result ≡ stepped_if (proceeds order.kind order.form) }
     {
         match order.kind {
-            Kind::Read => self.load_sector(order, done),
-            Kind::Write | Kind::Verify | Kind::Flush | Kind::Identify | Kind::Features =>
-                Stepped::Nothing,
+            Kind::Read if order.form.gives_words() => self.load_sector(order, done),
+            Kind::Read
+            | Kind::Write
+            | Kind::Verify
+            | Kind::Flush
+            | Kind::Identify
+            | Kind::Features => Stepped::Nothing,
         }
     }
 
@@ -160,18 +172,27 @@ impl Drive {
         ensures after { (memory : List ℕ) →
             given_up order.kind order done (plain (device_of self.old) memory)
             ≡ plain (device_of self.new) memory }
-        ensures answer { result ≡ stepped_if (proceeds order.kind) }
+        ensures answer { result ≡ stepped_if (proceeds order.kind order.form) }
     {
         match order.kind {
-            Kind::Read => self.fail_at(order.extended, order.first + done as u64),
-            Kind::Write | Kind::Verify | Kind::Flush | Kind::Identify | Kind::Features =>
-                Stepped::Nothing,
+            Kind::Read if order.form.gives_words() => self.fail_at(
+                order.extended,
+                order.first + done as u64,
+            ),
+            Kind::Read
+            | Kind::Write
+            | Kind::Verify
+            | Kind::Flush
+            | Kind::Identify
+            | Kind::Features => Stepped::Nothing,
         }
     }
 
     // Loads the sector that is due, which waits in Data from now on.
+    #[tactic(auto, using(ata_taskfile::proofs::Ends::is_due, ata_taskfile::proofs::Ends::block_lawful, ata_taskfile::proofs::Ends::announced_lawful))]
     fn load_sector(&mut self, order: Request, done: u32) -> Stepped
-        requires { self.old.file.phase ≡ Phase.Busy (Taken.Good order) done }
+        requires phase { self.old.file.phase ≡ Phase.Busy (Taken.Good order) done }
+        requires gives { gives_words order.form ≡ true }
         ensures after { (memory : List ℕ) → loaded order done (plain (device_of self.old) memory)
             ≡ plain (device_of self.new) memory }
         ensures answer { result ≡ Stepped.Changed }
@@ -184,7 +205,10 @@ impl Drive {
     }
 
     // Ends the command as failed at this sector, whose bytes can't be had.
+    #[tactic(auto, using(ata_taskfile::proofs::Ends::failed_at_lawful))]
     fn fail_at(&mut self, extended: bool, sector: u64) -> Stepped
+        requires in_hand { has_order self.old.file.phase ≡ true }
+        requires still { is_moving self.old.file.phase ≡ false }
         ensures after { let d = device_of self.old in
             device_of self.new ≡ with_file (ended_failed UNC (addressed extended sector d.file)) d }
         ensures answer { result ≡ Stepped.Changed }
@@ -196,9 +220,10 @@ impl Drive {
         Stepped::Changed
     }
 
-    #[tactic(auto, using(crate::proofs::Sectors::cell_at, crate::proofs::Words::all_words))]
+    #[tactic(auto, using(crate::proofs::Sectors::cell_at, crate::proofs::Words::all_words, crate::proofs::Words::length_all))]
     fn load_block(&mut self, sector: u64)
-        requires { sector < self.old.sectors }
+        requires within { sector < self.old.sectors }
+        requires lawful { IsLawfulState self.old.file self.old.bus 256 self.old.sectors }
         ensures after { let d = device_of self.old in
             device_of self.new ≡ record d { block = words_of (sector_value sector d) } }
         ensures whole { self.new.words ≡ 256 }
@@ -218,29 +243,29 @@ impl Drive {
         u16::from_le_bytes([self.block[at], self.block[at + 1]])
     }
 
+    // Takes a word into the block, behind the words that are there.
+    #[tactic(auto, using(crate::proofs::Words::word_pushed, crate::proofs::Words::length_pushed))]
+    pub(crate) fn push_word(&mut self, w: u16, phase: Phase)
+        requires room { self.old.words < 256 }
+        requires lawful { IsLawfulState (record self.old.file { phase = phase }) self.old.bus
+            (self.old.words + 1) self.old.sectors }
+        ensures { let d = device_of self.old in
+            device_of self.new ≡ with_phase phase (record d { block = d.block ++ w ∷ [] }) }
+    {
+        let [low, high] = w.to_le_bytes();
+        let at = 2 * self.words as usize;
+        self.block[at] = low;
+        self.block[at + 1] = high;
+        self.words += 1;
+        self.file.phase = phase;
+    }
+
     // Puts these registers in place. A rise of the line shows in the bus master.
     pub(crate) fn put_file(&mut self, file: TaskFile)
-        requires { IsLawful file.phase self.old.sectors self.old.words }
+        requires { IsLawfulState file self.old.bus self.old.words self.old.sectors }
         ensures { device_of self.new ≡ with_file file (device_of self.old) }
     {
-        if file.line() && !self.file.line() {
-            self.bus.interrupt = true;
-        }
+        self.bus.note_line(self.file.line(), file.line());
         self.file = file;
-    }
-}
-
-// The bus master at power-on.
-fn idle_bus() -> Bus
-    ensures { result ≡ idle_bus }
-{
-    Bus {
-        start: false,
-        inward: false,
-        active: false,
-        error: false,
-        interrupt: false,
-        pointer: 0,
-        walk: None,
     }
 }

@@ -1,14 +1,18 @@
 //! The guest's accesses to a drive.
 
-ghost use Rattle.std.specs.Prelude.{◌≡◌, ◌<◌};
+ghost use Rattle.std.specs.Prelude.{◌≡◌, ◌<◌, false, true};
+ghost use Rattle.std.proofs.Common.{subst, sym, ℕ};
+ghost use Rattle.ata_taskfile.specs.TaskFile.{is_of_bus};
 ghost use Rattle.ata_taskfile.specs.Order.{taken};
-ghost use Rattle.ata_taskfile.specs.Device.{gives_words, next_phase};
+ghost use Rattle.ata_taskfile.specs.Data.{gives_words, takes_words, word_given, word_taken, block_read};
+ghost use Rattle.ata_taskfile.specs.Device.{after_write8, after_write_word};
+ghost use Rattle.ata_taskfile.specs.Lawful.{IsLawfulState};
 ghost use Rattle.drive_model.specs.Drive.{device_of};
 
 use crate::Drive;
 use ata_command::read_request;
 use ata_taskfile::registers::BLOCK_WORDS;
-use ata_taskfile::{Form, Phase, Ports, Refused, Reg, Request, Taken, Wrote};
+use ata_taskfile::{Phase, Ports, Refused, Reg, Request, Taken, Wrote};
 
 impl Ports for Drive {
     ghost Rest = { Unit {0} };
@@ -18,33 +22,89 @@ impl Ports for Drive {
     ghost rest = { λ d. tt };
 
     fn read8(&mut self, reg: Reg) -> u8 {
+        if reg.is_of_bus() {
+            return self.bus.read(reg);
+        }
         let mut file = self.file;
         let value = file.read(reg);
         self.put_file(file);
         value
     }
 
+    #[tactic(auto, using(ata_taskfile::proofs::Lawfulness::bus_written_lawful))]
     fn write8(&mut self, reg: Reg, v: u8) {
-        let mut file = self.file;
-        if let Wrote::Command(byte) = file.write(reg, v) {
-            file.phase = Phase::Busy(taken(read_request(&file, byte, self.sectors)), 0);
+        if reg.is_of_bus() {
+            self.bus.write(reg, v);
+        } else {
+            self.write_file(reg, v);
         }
-        self.put_file(file);
     }
 
     fn read_word(&mut self) -> u16 {
         match self.file.phase {
-            Phase::Ready(Taken::Good(order), done, left) if gives_words(order.form) => {
+            Phase::Ready(Taken::Good(order), done, left) if order.form.gives_words() => {
                 let word = self.word(BLOCK_WORDS - left);
-                self.file.phase = next_phase(order, done, left);
+                self.file.phase = word_given(order, done, left);
                 word
             }
             _ => 0xffff,
         }
     }
 
+    #[tactic(auto, using(ata_taskfile::proofs::Ends::room_for_word, ata_taskfile::proofs::Ends::word_taken_lawful))]
+    fn write_word(&mut self, w: u16) {
+        match self.file.phase {
+            Phase::Ready(Taken::Good(order), done, left) if order.form.takes_words() =>
+                self.push_word(w, word_taken(order, done, left)),
+            _ => {}
+        }
+    }
+
+    fn read_pointer(&self) -> u32 {
+        self.bus.pointer
+    }
+
+    fn write_pointer(&mut self, v: u32) {
+        self.bus.write_pointer(v);
+    }
+
     fn line(&self) -> bool {
         self.file.line()
+    }
+
+    fn pending(&self) -> bool {
+        self.file.pending
+    }
+
+    fn walking(&self) -> bool {
+        self.bus.walk.is_some()
+    }
+
+    ghost lawful = { λ d. let P : ℕ → Type 0 = λ n. IsLawfulState d.file d.bus n d.sectors in
+        subst P (sym d.counted) d.lawful };
+}
+
+impl Drive {
+    // Writes a register of the task file.
+    #[tactic(auto, using(ata_taskfile::proofs::Lawfulness::stored_lawful, ata_taskfile::proofs::Lawfulness::command_lawful, ata_taskfile::proofs::Lawfulness::reset_lawful, ata_taskfile::proofs::Ends::bus_in_reset_lawful))]
+    fn write_file(&mut self, reg: Reg, v: u8)
+        requires { is_of_bus reg ≡ false }
+        ensures { device_of self.new ≡ after_write8 reg v (device_of self.old) }
+    {
+        let phase = self.file.phase;
+        let mut file = self.file;
+        match file.write(reg, v) {
+            Wrote::Ignored => {}
+            Wrote::Stored => self.put_file(file),
+            Wrote::Command(byte) => {
+                file.phase = Phase::Busy(taken(read_request(&file, byte, self.sectors)), 0);
+                self.put_file(file);
+            }
+            Wrote::ResetBegun => {
+                self.bus.reset_in(phase);
+                self.put_file(file);
+            }
+        }
     }
 }
 
@@ -57,19 +117,10 @@ fn taken(order: Result<Request, Refused>) -> Taken
     }
 }
 
-fn gives_words(form: Form) -> bool
-    ensures { result ≡ gives_words form }
-{
-    match form {
-        Form::PioIn => true,
-        Form::PioOut | Form::NoMove | Form::DmaIn | Form::DmaOut => false,
-    }
-}
-
-// The phase after a word of a block went.
-fn next_phase(order: Request, done: u32, left: u16) -> Phase
+// The phase after a word of a block was read.
+fn word_given(order: Request, done: u32, left: u16) -> Phase
     requires { done < order.count }
-    ensures { result ≡ next_phase order done left }
+    ensures { result ≡ word_given order done left }
 {
     if left > 1 {
         Phase::Ready(Taken::Good(order), done, left - 1)
@@ -77,5 +128,17 @@ fn next_phase(order: Request, done: u32, left: u16) -> Phase
         Phase::Busy(Taken::Good(order), done + 1)
     } else {
         Phase::Idle
+    }
+}
+
+// The phase after a word of a block was written.
+fn word_taken(order: Request, done: u32, left: u16) -> Phase
+    requires { done < order.count }
+    ensures { result ≡ word_taken order done left }
+{
+    if left > 1 {
+        Phase::Ready(Taken::Good(order), done, left - 1)
+    } else {
+        Phase::Busy(Taken::Good(order), done + 1)
     }
 }

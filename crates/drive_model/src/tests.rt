@@ -4,7 +4,7 @@ ghost use Rattle.std.specs.Prelude.{◌≡◌, IfOk};
 ghost use Rattle.drive_model.specs.Drive.{device_of};
 
 use crate::Drive;
-use ata_taskfile::{Ports, Reg, Step, Stepped};
+use ata_taskfile::{Access, Answer, Ports, Reg, Step, Stepped, perform};
 use std::alloc::{AllocError, Global};
 use std::test::Fail;
 
@@ -118,5 +118,91 @@ fn a_durable_value_is_copied(rt: HostRuntime) -> Result<(), Fail> {
     drive.durable(1, &mut sector);
     assert_eq!(rt; [sector[0], sector[511]], [0x34, 0xab]);
     assert!(rt; !drive.file().failed);
+    Ok(())
+}
+
+#[test]
+fn accesses_in_reset(rt: HostRuntime) -> Result<(), Fail> {
+    use Access::{Line, Read8, ReadPointer, ReadWord, Write8, WritePointer, WriteWord};
+
+    // The bus master's registers are written in every phase; Data is not.
+    let accesses = [
+        (ReadWord, Answer::Word(0xffff)),
+        (WriteWord(0x1234), Answer::Nothing),
+        (Write8(Reg::Count, 9), Answer::Nothing),
+        (Read8(Reg::Count), Answer::Byte(0)),
+        (WritePointer(0x103), Answer::Nothing),
+        (ReadPointer, Answer::Long(0x100)),
+        (Write8(Reg::BusCommand, 0x09), Answer::Nothing),
+        (Read8(Reg::BusCommand), Answer::Byte(0x09)),
+        (Read8(Reg::BusStatus), Answer::Byte(0x01)),
+        (WritePointer(0x200), Answer::Nothing),
+        (ReadPointer, Answer::Long(0x100)),
+        (Write8(Reg::BusCommand, 0x00), Answer::Nothing),
+        (Read8(Reg::BusStatus), Answer::Byte(0x00)),
+        (Line, Answer::Byte(0)),
+        (Read8(Reg::Alternate), Answer::Byte(0x80)),
+    ];
+    let mut drive = two_sectors(rt.alloc())?;
+    for (access, want) in accesses {
+        assert_eq!(rt; perform(&mut drive, &access), want, "{access:?}");
+    }
+    Ok(())
+}
+
+#[test]
+fn each_rise_of_the_line_shows(rt: HostRuntime) -> Result<(), Fail> {
+    use Access::{Line, Read8, Write8, WriteWord};
+
+    let mut drive = two_sectors(rt.alloc())?;
+    drive.step(Step::Good);
+    drive.write8(Reg::Alternate, 0x02);
+    ask(&mut drive, 0, 1);
+    drive.step(Step::Good);
+
+    // The interrupt pends below nIEN. Written as 0 it lets the line rise, and again after it was 1.
+    let accesses = [
+        (Line, Answer::Byte(0)),
+        (Read8(Reg::BusStatus), Answer::Byte(0x00)),
+        (Write8(Reg::Alternate, 0x00), Answer::Nothing),
+        (Line, Answer::Byte(1)),
+        (Read8(Reg::BusStatus), Answer::Byte(0x04)),
+        (Write8(Reg::BusStatus, 0x04), Answer::Nothing),
+        (Read8(Reg::BusStatus), Answer::Byte(0x00)),
+        (Line, Answer::Byte(1)),
+        (Write8(Reg::Alternate, 0x02), Answer::Nothing),
+        (Write8(Reg::Alternate, 0x80), Answer::Nothing),
+        (Read8(Reg::BusStatus), Answer::Byte(0x04)),
+        (WriteWord(0x1234), Answer::Nothing),
+        (Read8(Reg::Status), Answer::Byte(0x58)),
+        (Line, Answer::Byte(0)),
+    ];
+    assert!(rt; drive.pending());
+    for (access, want) in accesses {
+        assert_eq!(rt; perform(&mut drive, &access), want, "{access:?}");
+    }
+    assert!(rt; !drive.pending());
+    assert_eq!(rt; drive.read_word(), 0);
+    Ok(())
+}
+
+#[test]
+fn a_reset_ends_the_walk_of_its_command(rt: HostRuntime) -> Result<(), Fail> {
+    let mut drive = two_sectors(rt.alloc())?;
+    drive.step(Step::Good);
+    drive.write8(Reg::BusCommand, 0x01);
+
+    // READ SECTOR(S) moves nothing by the bus master, READ DMA does.
+    for (command, walks) in [(0x20, true), (0xc8, false)] {
+        drive.write8(Reg::Device, 0x40);
+        drive.write8(Reg::Status, command);
+        assert_eq!(rt; drive.read8(Reg::Status), 0x80, "{command:x}");
+        drive.write8(Reg::Alternate, 0x04);
+        assert_eq!(rt; drive.walking(), walks, "{command:x}");
+        assert_eq!(rt; drive.read8(Reg::BusStatus), 0x01, "{command:x}");
+        drive.write8(Reg::Alternate, 0x00);
+        drive.step(Step::Good);
+        assert_eq!(rt; drive.read8(Reg::Status), 0x50, "{command:x}");
+    }
     Ok(())
 }

@@ -11,8 +11,8 @@ use Rattle.plain_drive.specs.Plain.{Plain}
 use Rattle.plain_drive.specs.Step.{proceeds, proceeded, acts, acts_in, stepped, good_step}
 
 -- a kind of command that makes no steps
-proceeded_no : (k : Kind) (order : Request) (done : ℕ) (p : Plain) → proceeds k ≡ false → proceeded k order done p ≡ p
-proceeded_no kind.Read order done p idle = cc
+proceeded_no : (k : Kind) (order : Request) (done : ℕ) (p : Plain) → proceeds k order.form ≡ false → proceeded k order done p ≡ p
+proceeded_no kind.Read order done p idle = rw idle refl
 proceeded_no kind.Write order done p idle = refl
 proceeded_no kind.Verify order done p idle = refl
 proceeded_no kind.Flush order done p idle = refl

@@ -6,7 +6,8 @@ use Rattle.ata_taskfile.specs.declared.Request.{Request}
 use Rattle.ata_taskfile.specs.declared.Taken.TheVariants.{Good}
 use Rattle.ata_taskfile.specs.declared.Phase.{Phase}
 use Rattle.ata_taskfile.specs.declared.Phase.TheVariants.{Ready}
-use Rattle.ata_taskfile.specs.Device.{Device, word_in, phase_after_word, after_read_word, gives_words}
+use Rattle.ata_taskfile.specs.Data.{word_in, phase_after_read, gives_words}
+use Rattle.ata_taskfile.specs.Device.{Device, after_read_word}
 use Rattle.plain_drive.specs.Words.{words_read}
 
 -- the word that is due
@@ -18,7 +19,7 @@ word_due phase block order done left e g = grind arith
 -- one word less is left, while there are more
 one_less : (phase : Phase) (order : Request) (done n : ℕ)
     → phase ≡ Ready (Good order) done (suc (suc n)) → gives_words order.form ≡ true
-    → phase_after_word phase ≡ Ready (Good order) done (suc n)
+    → phase_after_read phase ≡ Ready (Good order) done (suc n)
 one_less phase order done n e g = grind arith
 
 -- what is left of a block, by the next word

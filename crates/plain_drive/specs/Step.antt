@@ -2,6 +2,7 @@
 use Rattle.std.specs.Prelude.{ℕ, Bool, true, false, not, ◌+◌, if◌then◌else◌}
 use Rattle.ata_taskfile.specs.declared.Kind.{Kind}
 use Rattle.ata_taskfile.specs.declared.Kind.TheVariants as kind
+use Rattle.ata_taskfile.specs.declared.Form.{Form}
 use Rattle.ata_taskfile.specs.declared.Request.{Request}
 use Rattle.ata_taskfile.specs.declared.Taken.TheVariants.{Good, Bad}
 use Rattle.ata_taskfile.specs.declared.Phase.{Phase}
@@ -12,6 +13,7 @@ use Rattle.ata_taskfile.specs.declared.Stepped.{Stepped}
 use Rattle.ata_taskfile.specs.declared.Stepped.TheVariants.{Nothing, Changed}
 use Rattle.ata_taskfile.specs.declared.registers.TheConstants.{UNC}
 use Rattle.ata_taskfile.specs.TaskFile.{holds_reset, reset_ended, refused, announced, ended_failed, addressed}
+use Rattle.ata_taskfile.specs.Data.{gives_words}
 use Rattle.plain_drive.specs.Plain.{Plain, with_registers, sector_value, words_of}
 
 -- a sector's words are loaded, and wait in Data (ATA/ATAPI-6, PIO data-in)
@@ -20,9 +22,9 @@ loaded order done p =
     with_registers (announced (Ready (Good order) done 256) p.device.file)
     (record p { device = record p.device { block = words_of (sector_value (order.first + done) p.device) } })
 
--- a good step of an order, one line for each kind; a kind that isn't built has none
+-- a good step of an order, one line for each kind; a kind that isn't built has none, and a read by DMA neither
 abbrev pub proceeded : Kind → Request → ℕ → Plain → Plain
-proceeded kind.Read order done p = loaded order done p
+proceeded kind.Read order done p = if gives_words order.form then loaded order done p else p
 proceeded kind.Write order done p = p
 proceeded kind.Verify order done p = p
 proceeded kind.Flush order done p = p
@@ -43,7 +45,7 @@ good_step p = stepped p.device.file.phase p
 
 -- the failed end of an order: its Error, and the sector that failed in the address registers
 abbrev pub given_up : Kind → Request → ℕ → Plain → Plain
-given_up kind.Read order done p = with_registers (ended_failed UNC (addressed order.extended (order.first + done) p.device.file)) p
+given_up kind.Read order done p = if gives_words order.form then with_registers (ended_failed UNC (addressed order.extended (order.first + done) p.device.file)) p else p
 given_up kind.Write order done p = p
 given_up kind.Verify order done p = p
 given_up kind.Flush order done p = p
@@ -67,14 +69,14 @@ abbrev pub step_made : Step → Plain → Plain
 step_made step.Good p = good_step p
 step_made step.Bad p = bad_step p
 
--- a kind of command that makes steps
-abbrev pub proceeds : Kind → Bool
-proceeds kind.Read = true
-proceeds kind.Write = false
-proceeds kind.Verify = false
-proceeds kind.Flush = false
-proceeds kind.Identify = false
-proceeds kind.Features = false
+-- a kind of command that makes steps, in this form
+abbrev pub proceeds : Kind → Form → Bool
+proceeds kind.Read form = gives_words form
+proceeds kind.Write form = false
+proceeds kind.Verify form = false
+proceeds kind.Flush form = false
+proceeds kind.Identify form = false
+proceeds kind.Features form = false
 
 -- whether a step has an effect in a phase
 abbrev pub acts_in : Step → Phase → Plain → Bool
@@ -83,7 +85,7 @@ acts_in step.Bad Reset p = false
 acts_in s Idle p = false
 acts_in s (Ready taken done left) p = false
 acts_in s (Busy (Bad reason) done) p = true
-acts_in s (Busy (Good order) done) p = proceeds order.kind
+acts_in s (Busy (Good order) done) p = proceeds order.kind order.form
 
 -- whether a step has an effect
 abbrev pub acts : Step → Plain → Bool

@@ -1,6 +1,7 @@
 -- A run whose commands only read: no sector gets another value.
 use Rattle.std.proofs.Common.{◌≡◌, ℕ, zero, suc, List, [], ◌∷◌, refl, ◌∙◌, arith}
 use Rattle.ata_taskfile.specs.Device.{Device, after_read_word}
+use Rattle.ata_taskfile.proofs.Cells.{write8-cells}
 use Rattle.plain_drive.specs.Plain.{Plain}
 use Rattle.plain_drive.specs.Step.{good_step}
 use Rattle.plain_drive.specs.Words.{after_words}
@@ -26,7 +27,7 @@ after_words-cells (suc n) d = after_words-cells n (after_read_word d)
 
 after_access-cells : (one : Event) (d : Device) → (after_access one d).cells ≡ d.cells
 after_access-cells (event.Read8 r) d = refl
-after_access-cells (event.Write8 r v) d = refl
+after_access-cells (event.Write8 r v) d = write8-cells r v d
 after_access-cells (event.ReadWords n) d = after_words-cells n d
 after_access-cells event.Line d = refl
 after_access-cells (event.Drive s) d = refl

@@ -1,23 +1,13 @@
 -- Where a report says that the drive took a command.
 use Rattle.std.specs.Prelude.{ℕ, Bool, true, false, zero, suc, List, [], ◌∷◌, if◌then◌else◌}
-use Rattle.ata_taskfile.specs.declared.Kind.{Kind}
-use Rattle.ata_taskfile.specs.declared.Kind.TheVariants as kind
 use Rattle.ata_taskfile.specs.declared.Taken.{Taken}
 use Rattle.ata_taskfile.specs.declared.Taken.TheVariants.{Good, Bad}
 use Rattle.ata_taskfile.specs.declared.Phase.{Phase}
 use Rattle.ata_taskfile.specs.declared.Phase.TheVariants.{Reset, Idle, Busy, Ready}
 use Rattle.ata_taskfile.specs.declared.task_file.TaskFile.{TaskFile}
+use Rattle.ata_taskfile.specs.Order.{has_range}
 use Rattle.schedule_text.specs.declared.Item.{Item}
 use Rattle.schedule_text.specs.declared.Item.TheVariants as item
-
--- a kind of command that names sectors
-abbrev pub has_range : Kind → Bool
-has_range kind.Read = true
-has_range kind.Write = true
-has_range kind.Verify = true
-has_range kind.Flush = false
-has_range kind.Identify = false
-has_range kind.Features = false
 
 -- what a report says of a taken command: its byte and its range, 0 and 0 where it has none or is refused (own)
 abbrev pub command_item : ℕ → Taken → Item

@@ -1,0 +1,3 @@
+pub mod Lawfulness
+pub mod Ends
+pub mod Cells
