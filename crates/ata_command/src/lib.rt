@@ -5,8 +5,8 @@
 
 #![tactic(auto)]
 
-ghost use Rattle.std.specs.Prelude.{◌≡◌, ◌+◌, ◌<◌, ◌≤◌, ◌^◌, false, true, Some};
-ghost use Rattle.ata_taskfile.specs.Order.{inputs, has_range, narrow, wide, count_without_range, order_in, order_of, first_28, first_48, count_or, count_8, count_16, names_sectors, has_feature, within};
+ghost use Rattle.std.specs.Prelude.{◌≡◌, ◌+◌, ◌<◌, ◌≤◌, ◌^◌, false, true};
+ghost use Rattle.ata_taskfile.specs.Order.{inputs, has_range, narrow, wide, count_without_range, order_in, order_of, first_28, first_48, count_8, count_16, within};
 
 #[cfg(test)]
 mod tests;

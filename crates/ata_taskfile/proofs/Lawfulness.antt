@@ -68,11 +68,11 @@ reset-lawful device error c v failed pending phase b l =
     grind (arith, k, s)
 
 -- an order of the table is possible
-order-possible : (byte n : ℕ) (i : Inputs) → is_possible (taken (order_of byte i n)) ≡ true
+pub order-possible : (byte n : ℕ) (i : Inputs) → is_possible (taken (order_of byte i n)) ≡ true
 order-possible byte n i = grind arith
 
 -- and its sectors are on the drive
-order-within : (byte n : ℕ) (i : Inputs) → end_in (taken (order_of byte i n)) ≤ n
+pub order-within : (byte n : ℕ) (i : Inputs) → end_in (taken (order_of byte i n)) ≤ n
 order-within byte n i = grind arith
 
 -- a drive can work at the start of a possible order

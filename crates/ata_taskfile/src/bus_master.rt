@@ -1,9 +1,9 @@
 //! The bus master of the primary channel: its registers, its table pointer, and where a walk begins and ends.
 
 ghost use Rattle.std.specs.Prelude.{◌≡◌, true};
-ghost use Rattle.ata_taskfile.specs.TaskFile.{has_bit, is_of_bus};
+ghost use Rattle.ata_taskfile.specs.TaskFile.{is_of_bus};
 ghost use Rattle.ata_taskfile.specs.Bus.{idle_bus, bit_shown, command_shown, status_shown, bus_value, started, command_written, status_written, bus_written, pointer_written, walk_ended, raised};
-ghost use Rattle.ata_taskfile.specs.Device.{is_moving, bus_in_reset};
+ghost use Rattle.ata_taskfile.specs.Device.{bus_in_reset};
 
 use crate::registers::{ACTIVE, BUS_ERROR, INTERRUPT, INWARD, START, has_bit};
 use crate::{Phase, Reg, Taken};

@@ -18,7 +18,10 @@ mod tests;
 mod transfer;
 
 pub use bus_master::Bus;
-pub use laws::{accesses_keep_lawful, accesses_move_no_sector, power_on_is_lawful};
+pub use laws::{
+    a_rise_sets_the_interrupt_bit, accesses_keep_lawful, accesses_move_no_sector,
+    ignored_writes_do_nothing, orders_fit_the_drive, power_on_is_lawful,
+};
 pub use ports::{Ports, perform};
 pub use task_file::TaskFile;
 

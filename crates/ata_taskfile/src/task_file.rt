@@ -1,7 +1,7 @@
 //! The task file: a device's registers with the phase of its command.
 
 ghost use Rattle.std.specs.Prelude.{◌≡◌, false};
-ghost use Rattle.ata_taskfile.specs.TaskFile.{has_bit, line, value, after_read, after_write, wrote, power_on, is_of_bus, reset_ended, refused, announced, ended_failed, addressed, shows_previous, holds_reset, masks_line, selects_absent, status, shown, is_at_work, is_ignored, stored_as, controlled, in_reset, control_wrote, has_command};
+ghost use Rattle.ata_taskfile.specs.TaskFile.{line, value, after_read, after_write, wrote, power_on, is_of_bus, reset_ended, refused, announced, ended_failed, addressed, shows_previous, holds_reset, masks_line, selects_absent, status, shown, is_at_work, is_ignored, stored_as, controlled, in_reset, control_wrote, has_command};
 
 use crate::registers::{ABRT, BSY, DEV, DRDY, DRQ, DSC, ERR, HOB, IDNF, NIEN, SRST, has_bit};
 use crate::{Phase, Refused, Reg, Wrote};

@@ -1,6 +1,6 @@
 //! The drive and its steps.
 
-ghost use Rattle.std.specs.Prelude.{◌≡◌, ◌+◌, ◌*◌, ◌/◌, ◌%◌, ◌<◌, ◌≤◌, ◌++◌, ◌∷◌, [], ℕ, List, length, slice_index, IfOk, true, false};
+ghost use Rattle.std.specs.Prelude.{◌≡◌, ◌+◌, ◌*◌, ◌/◌, ◌%◌, ◌<◌, ◌++◌, ◌∷◌, [], ℕ, List, length, slice_index, IfOk, true, false};
 ghost use Rattle.ata_taskfile.specs.Lawful.{has_order, IsLawfulState};
 ghost use Rattle.ata_taskfile.specs.TaskFile.{refused, addressed, ended_failed};
 ghost use Rattle.ata_taskfile.specs.Data.{gives_words};

@@ -1,11 +1,11 @@
 //! The guest's accesses to a drive.
 
-ghost use Rattle.std.specs.Prelude.{◌≡◌, ◌<◌, false, true};
+ghost use Rattle.std.specs.Prelude.{◌≡◌, ◌<◌, false};
 ghost use Rattle.std.proofs.Common.{subst, sym, ℕ};
 ghost use Rattle.ata_taskfile.specs.TaskFile.{is_of_bus};
 ghost use Rattle.ata_taskfile.specs.Order.{taken};
-ghost use Rattle.ata_taskfile.specs.Data.{gives_words, takes_words, word_given, word_taken, block_read};
-ghost use Rattle.ata_taskfile.specs.Device.{after_write8, after_write_word};
+ghost use Rattle.ata_taskfile.specs.Data.{word_given, word_taken};
+ghost use Rattle.ata_taskfile.specs.Device.{after_write8};
 ghost use Rattle.ata_taskfile.specs.Lawful.{IsLawfulState};
 ghost use Rattle.drive_model.specs.Drive.{device_of};
 
