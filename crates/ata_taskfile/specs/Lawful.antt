@@ -37,7 +37,7 @@ position_of Idle = 0
 position_of (Busy taken done) = done
 position_of (Ready taken done left) = done
 
--- a command was taken, and the drive has made no step since
+-- the drive is at work on a command of which nothing is done
 abbrev pub is_fresh : Phase → Bool
 is_fresh Reset = false
 is_fresh Idle = false

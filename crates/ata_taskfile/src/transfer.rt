@@ -1,11 +1,12 @@
-//! What a register, a form and a phase say of the parts of the device.
+//! What a register, a form and a phase say of the parts of a device, and how an order goes on word by word.
 
-ghost use Rattle.std.specs.Prelude.{◌≡◌};
+ghost use Rattle.std.specs.Prelude.{◌≡◌, ◌<◌};
 ghost use Rattle.ata_taskfile.specs.TaskFile.{is_of_bus};
-ghost use Rattle.ata_taskfile.specs.Data.{gives_words, takes_words, moves_by_bus};
+ghost use Rattle.ata_taskfile.specs.Data.{gives_words, takes_words, moves_by_bus, word_given, word_taken};
+ghost use Rattle.ata_taskfile.specs.Order.{taken};
 ghost use Rattle.ata_taskfile.specs.Device.{is_moving};
 
-use crate::{Form, Phase, Reg, Taken};
+use crate::{Form, Phase, Refused, Reg, Request, Taken};
 
 impl Reg {
     /// One of the two registers of the bus master, which aren't the task file's.
@@ -54,6 +55,48 @@ impl Form {
         match self {
             Form::DmaIn | Form::DmaOut => true,
             Form::NoMove | Form::PioIn | Form::PioOut => false,
+        }
+    }
+}
+
+impl Taken {
+    /// An order as a device keeps it in hand.
+    pub fn of(order: Result<Request, Refused>) -> Taken
+        ensures { result ≡ taken order }
+    {
+        match order {
+            Ok(request) => Taken::Good(request),
+            Err(reason) => Taken::Bad(reason),
+        }
+    }
+}
+
+impl Request {
+    /// The phase after a word was read of the block at position `done`, of which `left` were left (ATA/ATAPI-6, PIO
+    /// data-in).
+    pub fn word_given(self, done: u32, left: u16) -> Phase
+        requires { done < self.count }
+        ensures { result ≡ word_given self done left }
+    {
+        if left > 1 {
+            Phase::Ready(Taken::Good(self), done, left - 1)
+        } else if done + 1 < self.count {
+            Phase::Busy(Taken::Good(self), done + 1)
+        } else {
+            Phase::Idle
+        }
+    }
+
+    /// The phase after a word was written of the block at position `done`, of which `left` were left (ATA/ATAPI-6,
+    /// PIO data-out).
+    pub fn word_taken(self, done: u32, left: u16) -> Phase
+        requires { done < self.count }
+        ensures { result ≡ word_taken self done left }
+    {
+        if left > 1 {
+            Phase::Ready(Taken::Good(self), done, left - 1)
+        } else {
+            Phase::Busy(Taken::Good(self), done + 1)
         }
     }
 }

@@ -1,10 +1,8 @@
 //! The guest's accesses to a drive.
 
-ghost use Rattle.std.specs.Prelude.{◌≡◌, ◌<◌, false};
+ghost use Rattle.std.specs.Prelude.{◌≡◌, false};
 ghost use Rattle.std.proofs.Common.{subst, sym, ℕ};
 ghost use Rattle.ata_taskfile.specs.TaskFile.{is_of_bus};
-ghost use Rattle.ata_taskfile.specs.Order.{taken};
-ghost use Rattle.ata_taskfile.specs.Data.{word_given, word_taken};
 ghost use Rattle.ata_taskfile.specs.Device.{after_write8};
 ghost use Rattle.ata_taskfile.specs.Lawful.{IsLawfulState};
 ghost use Rattle.drive_model.specs.Drive.{device_of};
@@ -12,7 +10,7 @@ ghost use Rattle.drive_model.specs.Drive.{device_of};
 use crate::Drive;
 use ata_command::read_request;
 use ata_taskfile::registers::BLOCK_WORDS;
-use ata_taskfile::{Phase, Ports, Refused, Reg, Request, Taken, Wrote};
+use ata_taskfile::{Phase, Ports, Reg, Taken, Wrote};
 
 impl Ports for Drive {
     ghost Rest = { Unit {0} };
@@ -44,7 +42,7 @@ impl Ports for Drive {
         match self.file.phase {
             Phase::Ready(Taken::Good(order), done, left) if order.form.gives_words() => {
                 let word = self.word(BLOCK_WORDS - left);
-                self.file.phase = word_given(order, done, left);
+                self.file.phase = order.word_given(done, left);
                 word
             }
             _ => 0xffff,
@@ -55,7 +53,7 @@ impl Ports for Drive {
     fn write_word(&mut self, w: u16) {
         match self.file.phase {
             Phase::Ready(Taken::Good(order), done, left) if order.form.takes_words() =>
-                self.push_word(w, word_taken(order, done, left)),
+                self.push_word(w, order.word_taken(done, left)),
             _ => {}
         }
     }
@@ -97,7 +95,7 @@ impl Drive {
             Wrote::Ignored => {}
             Wrote::Stored => self.put_file(file),
             Wrote::Command(byte) => {
-                file.phase = Phase::Busy(taken(read_request(&file, byte, self.sectors)), 0);
+                file.phase = Phase::Busy(Taken::of(read_request(&file, byte, self.sectors)), 0);
                 self.put_file(file);
             }
             Wrote::ResetBegun => {
@@ -105,40 +103,5 @@ impl Drive {
                 self.put_file(file);
             }
         }
-    }
-}
-
-fn taken(order: Result<Request, Refused>) -> Taken
-    ensures { result ≡ taken order }
-{
-    match order {
-        Ok(request) => Taken::Good(request),
-        Err(reason) => Taken::Bad(reason),
-    }
-}
-
-// The phase after a word of a block was read.
-fn word_given(order: Request, done: u32, left: u16) -> Phase
-    requires { done < order.count }
-    ensures { result ≡ word_given order done left }
-{
-    if left > 1 {
-        Phase::Ready(Taken::Good(order), done, left - 1)
-    } else if done + 1 < order.count {
-        Phase::Busy(Taken::Good(order), done + 1)
-    } else {
-        Phase::Idle
-    }
-}
-
-// The phase after a word of a block was written.
-fn word_taken(order: Request, done: u32, left: u16) -> Phase
-    requires { done < order.count }
-    ensures { result ≡ word_taken order done left }
-{
-    if left > 1 {
-        Phase::Ready(Taken::Good(order), done, left - 1)
-    } else {
-        Phase::Busy(Taken::Good(order), done + 1)
     }
 }

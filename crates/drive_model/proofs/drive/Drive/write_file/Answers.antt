@@ -14,7 +14,7 @@ put_file-requires c =
 pub put_file-requires-in-Command : goal.put_file-requires-in-Command
 put_file-requires-in-Command c =
     let after = λ (g : TaskFile). IsLawfulState (in_hand c.in-Command.byte c.args.self.now.sectors g) c.args.self.now.bus c.args.self.now.words c.args.self.now.sectors in
-    rw (c.taken.ensures, c.read_request.ensures)
+    rw (c.of.ensures, c.read_request.ensures)
     (subst after (sym c.write.ensures.after)
     (command_lawful c.args.reg c.args.v c.in-Command.byte c.args.self.now.file c.args.self.now.bus c.args.self.now.words c.args.self.now.sectors (sym c.write.ensures.wrote ∙ c.in-Command.is) c.args.self.now.lawful))
 
