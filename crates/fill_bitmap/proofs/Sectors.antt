@@ -20,6 +20,7 @@ pub all_added : (k : ℕ) (sector : List ℕ) (old new : List Bool) (place : ℕ
     → ((b : ℕ) → b < place → has new b ≡ has_added k sector old b)
     → ((b : ℕ) → place ≤ b → has new b ≡ has old b)
     → new ≡ with_sector k sector old
+unfolding with_sector
 all_added k sector old new place same far below behind =
     fill_by_all (has_added k sector old) new (length old) false same (λ b inside. elim (cases_lt b place) [
       | inl low ↦ below b low
@@ -28,9 +29,11 @@ all_added k sector old new place same far below behind =
 
 -- a set with a sector's blocks has as many places
 pub length-with_sector : (k : ℕ) (sector : List ℕ) (set : List Bool) → length (with_sector k sector set) ≡ length set
+unfolding with_sector
 length-with_sector k sector set = length-map-range_with_len (has_added k sector set) 0 (length set)
 
 -- what a set with a sector's blocks has
 pub has-with_sector : (k : ℕ) (sector : List ℕ) (set : List Bool) (b : ℕ) → b < length set
     → has (with_sector k sector set) b ≡ has_added k sector set b
+unfolding with_sector
 has-with_sector k sector set b inside = get_or-map-range_with_len (has_added k sector set) 0 (length set) b b false inside (omega arith)

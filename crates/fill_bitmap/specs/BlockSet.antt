@@ -26,7 +26,7 @@ abbrev pub has_added : ℕ → List ℕ → List Bool → ℕ → Bool
 has_added k sector set b = has set b || ((b / BLOCKS_OF_SECTOR == k) && has_bit sector b)
 
 -- a set with the blocks whose bits are set in sector `k` of the bitmap; bits past the last block are ignored (own)
-abbrev pub with_sector : ℕ → List ℕ → List Bool → List Bool
+unfoldable pub with_sector : ℕ → List ℕ → List Bool → List Bool
 with_sector k sector set = map (has_added k sector set) (range_with_len 0 (length set))
 
 -- the first block from `b` on that a set lacks
