@@ -2,7 +2,7 @@
 
 ghost use Rattle.std.specs.Prelude.{◌≡◌, ℕ, ◌/◌, ◌<◌, ◌≤◌, ◌↔◌, false, IfOk, IfSome, IsNone, IsTrue};
 ghost use Rattle.fill_bitmap.specs.Bits.{has_bit, sector_of};
-ghost use Rattle.fill_bitmap.specs.BlockSet.{IsWhole, has, next_outside};
+ghost use Rattle.fill_bitmap.specs.BlockSet.{IsWhole, has, with_sector, next_outside};
 ghost use Rattle.fill_bitmap.specs.Bitmap.{IsNested, blocks_in, sectors_in, empty_sets, with_filled, loaded, frozen_now, frozen_stored};
 
 use crate::area::BLOCKS_OF_SECTOR;
@@ -67,9 +67,13 @@ impl Bitmap {
         ensures count { blocks_in self.new ≡ blocks_in self.old }
         ensures nested { IsNested self.new }
     {
-        self.stored.add_sector(k, sector);
-        self.frozen.add_sector(k, sector);
-        self.filled.add_sector(k, sector);
+        add_to_each(
+            &mut self.stored,
+            &mut self.frozen,
+            &mut self.filled,
+            k,
+            sector,
+        );
     }
 
     /// Block `b` is filled from now on.
@@ -164,4 +168,21 @@ impl Bitmap {
     {
         self.stored.copy_from(&self.frozen);
     }
+}
+
+// Adds the blocks of the bitmap's sector `k` to three sets. Between one and the next they aren't a bitmap's.
+fn add_to_each(
+    stored: &mut BlockSet,
+    frozen: &mut BlockSet,
+    filled: &mut BlockSet,
+    k: u32,
+    sector: &[u8; 512],
+)
+    ensures stored { stored.new ≡ with_sector k sector.now stored.old }
+    ensures frozen { frozen.new ≡ with_sector k sector.now frozen.old }
+    ensures filled { filled.new ≡ with_sector k sector.now filled.old }
+{
+    stored.add_sector(k, sector);
+    frozen.add_sector(k, sector);
+    filled.add_sector(k, sector);
 }
