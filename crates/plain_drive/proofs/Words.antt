@@ -1,14 +1,15 @@
--- The words read from Data.
-use Rattle.std.proofs.Common.{◌≡◌, ℕ, ◌-◌, ◌≤◌, ◌<◌, List, ◌∷◌, length, zero, suc, true, drop, get_or, sym, ap, ◌∙◌, arith}
+-- The words read from Data, and written to it.
+use Rattle.std.proofs.Common.{◌≡◌, ℕ, ◌+◌, ◌-◌, ◌≤◌, ◌<◌, List, [], ◌∷◌, ◌++◌, append_assoc, length, zero, suc, true, drop, get_or, sym, ap, ◌∙◌, arith}
 use Rattle.std.proofs.Math.ListN.{drop_of_length-le}
 use Rattle.std.proofs.Math.Seq.{drop-cons}
 use Rattle.ata_taskfile.specs.declared.Request.{Request}
 use Rattle.ata_taskfile.specs.declared.Taken.TheVariants.{Good}
 use Rattle.ata_taskfile.specs.declared.Phase.{Phase}
-use Rattle.ata_taskfile.specs.declared.Phase.TheVariants.{Ready}
-use Rattle.ata_taskfile.specs.Data.{word_in, phase_after_read, gives_words}
-use Rattle.ata_taskfile.specs.Device.{Device, after_read_word}
-use Rattle.plain_drive.specs.Words.{words_read}
+use Rattle.ata_taskfile.specs.declared.Phase.TheVariants.{Busy, Ready}
+use Rattle.ata_taskfile.specs.Data.{word_in, phase_after_read, gives_words, takes_words, phase_after_write, block_after_write}
+use Rattle.ata_taskfile.specs.Device.{Device, after_read_word, after_write_word}
+use Rattle.plain_drive.specs.Words.{words_read, after_written}
+use Rattle.plain_drive.specs.Laws.{IsWritten}
 
 -- the word that is due
 word_due : (phase : Phase) (block : List ℕ) (order : Request) (done left : ℕ)
@@ -47,3 +48,32 @@ read_words (suc (suc n)) d order done e g whole most =
     let rest = read_words (suc n) (after_read_word d) order done less g whole (omega arith) in
     let word = word_due d.file.phase d.block order done (suc (suc n)) e g in
     let left = next_word d.block (suc n) whole most in cc
+
+-- a word is taken behind those that are there
+word_taken-block : (phase : Phase) (order : Request) (done left w : ℕ) (block : List ℕ)
+    → phase ≡ Ready (Good order) done left → takes_words order.form ≡ true → block_after_write w phase block ≡ block ++ w ∷ []
+word_taken-block phase order done left w block e takes = grind arith
+
+-- one word less is wanted, while there are more
+one_wanted_less : (phase : Phase) (order : Request) (done n : ℕ)
+    → phase ≡ Ready (Good order) done (suc (suc n)) → takes_words order.form ≡ true
+    → phase_after_write phase ≡ Ready (Good order) done (suc n)
+one_wanted_less phase order done n e takes = grind arith
+
+-- after the last word the drive is at work
+last_wanted : (phase : Phase) (order : Request) (done : ℕ)
+    → phase ≡ Ready (Good order) done 1 → takes_words order.form ≡ true → phase_after_write phase ≡ Busy (Good order) (done + 1)
+last_wanted phase order done e takes = grind arith
+
+-- the words written come behind the block, and end it
+pub written_words : (words : List ℕ) (w : ℕ) (d : Device) (order : Request) (done : ℕ)
+    → d.file.phase ≡ Ready (Good order) done (suc (length words)) → takes_words order.form ≡ true
+    → IsWritten (after_written (w ∷ words) d) (d.block ++ w ∷ words) order done
+unfolding after_written
+written_words [] w d order done e takes =
+    record { block = word_taken-block d.file.phase order done 1 w d.block e takes; phase = last_wanted d.file.phase order done e takes }
+written_words (v ∷ words) w d order done e takes =
+    let less = one_wanted_less d.file.phase order done (length words) e takes in
+    let here = word_taken-block d.file.phase order done (suc (suc (length words))) w d.block e takes in
+    let rest = written_words words v (after_write_word w d) order done less takes in
+    record { block = rest.block ∙ ap (λ b. b ++ v ∷ words) here ∙ append_assoc d.block (w ∷ []) (v ∷ words); phase = rest.phase }

@@ -1,9 +1,9 @@
 -- Words for the laws of this crate.
-use Rattle.std.specs.Prelude.{ℕ, ◌≡◌, true, length}
+use Rattle.std.specs.Prelude.{ℕ, ◌≡◌, ◌+◌, true, length, List, []}
 use Rattle.ata_taskfile.specs.declared.Request.{Request}
 use Rattle.ata_taskfile.specs.declared.Taken.TheVariants.{Good}
-use Rattle.ata_taskfile.specs.declared.Phase.TheVariants.{Ready}
-use Rattle.ata_taskfile.specs.Data.{gives_words}
+use Rattle.ata_taskfile.specs.declared.Phase.TheVariants.{Busy, Ready}
+use Rattle.ata_taskfile.specs.Data.{gives_words, takes_words}
 use Rattle.ata_taskfile.specs.Device.{Device}
 
 -- a whole block waits in Data for the guest to read
@@ -13,3 +13,16 @@ pub record IsLoaded (d : Device) : Type 0 where
   pub phase : d.file.phase ≡ Ready (Good order) done 256
   pub moves : gives_words order.form ≡ true
   pub whole : length d.block ≡ 256
+
+-- a whole block is wanted in Data from the guest
+pub record IsAwaited (d : Device) : Type 0 where
+  pub order : Request
+  pub done : ℕ
+  pub phase : d.file.phase ≡ Ready (Good order) done 256
+  pub moves : takes_words order.form ≡ true
+  pub empty : d.block ≡ []
+
+-- the words are the block, and the drive is at work on it
+pub record IsWritten (d : Device) (words : List ℕ) (order : Request) (done : ℕ) : Type 0 where
+  pub block : d.block ≡ words
+  pub phase : d.file.phase ≡ Busy (Good order) (done + 1)

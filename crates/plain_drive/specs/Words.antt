@@ -1,7 +1,7 @@
--- Words read from Data, one after the other.
+-- Words read from Data, and written to it, one after the other.
 use Rattle.std.specs.Prelude.{ℕ, ◌/◌, ◌%◌, zero, suc, List, [], ◌∷◌}
 use Rattle.std.specs.List.{flat_map}
-use Rattle.ata_taskfile.specs.Device.{Device, word_read, after_read_word}
+use Rattle.ata_taskfile.specs.Device.{Device, word_read, after_read_word, after_write_word}
 
 -- what so many reads of Data answer (ATA/ATAPI-6, PIO data-in)
 unfoldable pub words_read : ℕ → Device → List ℕ
@@ -12,6 +12,11 @@ words_read (suc n) d = word_read d ∷ words_read n (after_read_word d)
 unfoldable pub after_words : ℕ → Device → Device
 after_words zero d = d
 after_words (suc n) d = after_words n (after_read_word d)
+
+-- the device after writes of these words to Data (ATA/ATAPI-6, PIO data-out)
+unfoldable pub after_written : List ℕ → Device → Device
+after_written [] d = d
+after_written (w ∷ words) d = after_written words (after_write_word w d)
 
 -- words in bytes, the low byte of each first (ATA/ATAPI-6, Data register)
 abbrev pub bytes_of : List ℕ → List ℕ

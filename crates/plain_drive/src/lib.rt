@@ -7,12 +7,12 @@
 
 #![tactic(auto)]
 
-ghost use Rattle.std.specs.Prelude.{◌≡◌, ◌↔◌, ℕ, List};
+ghost use Rattle.std.specs.Prelude.{◌≡◌, ◌↔◌, ℕ, List, length};
 ghost use Rattle.plain_drive.specs.Plain.{stored};
 ghost use Rattle.plain_drive.specs.Cut.{IsOutcome};
 ghost use Rattle.ata_taskfile.specs.Device.{Device};
-ghost use Rattle.plain_drive.specs.Laws.{IsLoaded};
-ghost use Rattle.plain_drive.specs.Words.{words_read};
+ghost use Rattle.plain_drive.specs.Laws.{IsLoaded, IsAwaited, IsWritten};
+ghost use Rattle.plain_drive.specs.Words.{words_read, after_written};
 
 /// A store without writes has one cut outcome, itself.
 pub fn one_outcome_without_writes()
@@ -22,4 +22,10 @@ pub fn one_outcome_without_writes()
 /// The 256 words read from a loaded block are the block, in order.
 pub fn a_loaded_block_is_read()
     ensures { (d : Device) → IsLoaded d → words_read 256 d ≡ d.block }
+{}
+
+/// The 256 words written to an empty block are the block, in order, and then the drive is at work on it.
+pub fn a_written_block_is_taken()
+    ensures { (d : Device) (words : List ℕ) → (wanted : IsAwaited d) → length words ≡ 256
+        → IsWritten (after_written words d) words wanted.order wanted.done }
 {}
