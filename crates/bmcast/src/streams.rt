@@ -120,6 +120,8 @@ impl Streams {
         ensures files { KeepsFiles (H.outside host.old) (H.outside host.new) }
         ensures said { OnOk result ((text : List ℕ) → Said self.old (H.outside host.old) text
             → Said self.new (H.outside host.new) (text ++ end_text number)) }
+        ensures unread { OnOk result ((text : List ℕ) → unread self.new (H.outside host.new) text
+            ≡ unread self.old (H.outside host.old) text) }
     {
         write_end(number, &mut self.line);
         self.push_line(host)
