@@ -1,5 +1,5 @@
 -- The class of a guest's command.
-use Rattle.std.specs.Prelude.{ℕ, ◌+◌, Bool, true, false, not, ◌&&◌, if◌then◌else◌, nat_lt, List, Result, Ok, Err}
+use Rattle.std.specs.Prelude.{◌+◌, Bool, true, false, not, ◌&&◌, if◌then◌else◌, nat_lt, Result, Ok, Err}
 use Rattle.std.specs.Cmp.Lexicographic.{pointwise}
 use Rattle.std.proofs.Math.Bool.{beq}
 use Rattle.ata_taskfile.specs.declared.Kind.{Kind}

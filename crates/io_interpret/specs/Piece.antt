@@ -1,5 +1,5 @@
 -- How far the first piece of a range goes.
-use Rattle.std.specs.Prelude.{ℕ, ◌+◌, ◌*◌, ◌/◌, if◌then◌else◌, nat_lt, min}
+use Rattle.std.specs.Prelude.{ℕ, ◌+◌, ◌*◌, ◌/◌, min}
 use Rattle.fill_bitmap.specs.declared.area.Area.{Area}
 
 -- the first multiple of a block's sectors above a sector: where the next block begins (own)

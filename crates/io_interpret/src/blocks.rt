@@ -20,8 +20,8 @@ pub(crate) fn empty_block(sector: u64, area: &Area, bitmap: &Bitmap) -> Option<u
     if bitmap.is_filled(b) { None } else { Some(b) }
 }
 
-// Whether one of `count` sectors from `first` on lies in an empty block. Each of their blocks is looked at once at
-// most, and the last ones are not where an earlier one is empty.
+// Whether one of `count` sectors from `first` on lies in an empty block. Their blocks are looked at from the lowest on,
+// each once at most, up to the first empty one.
 pub(crate) fn touches_empty(first: u64, count: u32, area: &Area, bitmap: &Bitmap) -> bool
     requires suitable { IsSuitable area.now }
     requires blocks { blocks_in bitmap.now ≡ blocks_of area.now }
