@@ -1,3 +1,3 @@
 mod Sectors
-mod Words
-mod Steps
+mod Blocks
+mod Writes

@@ -2,3 +2,4 @@ mod Outcomes
 mod Words
 pub mod Steps
 pub mod Stores
+pub mod Ends

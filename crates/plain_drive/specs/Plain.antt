@@ -28,6 +28,32 @@ settled value = record { durable = value; written = [] }
 abbrev pub stored : List (List ℕ) → List Cell
 stored values = map settled values
 
+-- a cell after a write: the value is its newest (own: the disk model)
+abbrev pub written_to : List ℕ → Cell → Cell
+written_to value c = record c { written = value ∷ c.written }
+
+-- a store after a write to a sector
+abbrev pub appended : ℕ → List ℕ → List Cell → List Cell
+appended s value [] = []
+appended zero value (cell ∷ cells) = written_to value cell ∷ cells
+appended (suc s) value (cell ∷ cells) = cell ∷ appended s value cells
+
+-- a cell after a flush: its current value alone, which is durable (ATA/ATAPI-6, FLUSH CACHE)
+abbrev pub flushed : Cell → Cell
+flushed c = settled (current c)
+
+-- a store after a flush
+abbrev pub all_flushed : List Cell → List Cell
+all_flushed cells = map flushed cells
+
+-- the same drive with other cells
+abbrev pub with_cells : List Cell → Plain → Plain
+with_cells cells p = record p { device = record p.device { cells = cells } }
+
+-- the same drive with other words in the block
+abbrev pub with_block : List ℕ → Plain → Plain
+with_block block p = record p { device = record p.device { block = block } }
+
 -- the current value of a sector
 abbrev pub sector_value : ℕ → Device → List ℕ
 sector_value s d = current (slice_index_or d.cells s (settled []))

@@ -1,8 +1,9 @@
 -- The steps of a plain drive, by the phase of the command in hand.
-use Rattle.std.specs.Prelude.{ℕ, Bool, true, false, not, ◌+◌, if◌then◌else◌}
+use Rattle.std.specs.Prelude.{ℕ, Bool, true, false, not, ◌+◌, ◌-◌, ◌==◌, if◌then◌else◌, nat_lt, List, []}
 use Rattle.ata_taskfile.specs.declared.Kind.{Kind}
 use Rattle.ata_taskfile.specs.declared.Kind.TheVariants as kind
 use Rattle.ata_taskfile.specs.declared.Form.{Form}
+use Rattle.ata_taskfile.specs.declared.Form.TheVariants.{NoMove, PioIn, PioOut, DmaIn, DmaOut}
 use Rattle.ata_taskfile.specs.declared.Request.{Request}
 use Rattle.ata_taskfile.specs.declared.Taken.TheVariants.{Good, Bad}
 use Rattle.ata_taskfile.specs.declared.Phase.{Phase}
@@ -11,25 +12,78 @@ use Rattle.ata_taskfile.specs.declared.Step.{Step}
 use Rattle.ata_taskfile.specs.declared.Step.TheVariants as step
 use Rattle.ata_taskfile.specs.declared.Stepped.{Stepped}
 use Rattle.ata_taskfile.specs.declared.Stepped.TheVariants.{Nothing, Changed}
-use Rattle.ata_taskfile.specs.declared.registers.TheConstants.{UNC}
+use Rattle.ata_taskfile.specs.declared.registers.TheConstants.{UNC, ABRT}
+use Rattle.ata_taskfile.specs.declared.task_file.TaskFile.{TaskFile}
+use Rattle.ata_taskfile.specs.Bus.{walk_ended}
 use Rattle.ata_taskfile.specs.TaskFile.{holds_reset, reset_ended, refused, announced, ended_failed, addressed}
-use Rattle.ata_taskfile.specs.Data.{gives_words}
-use Rattle.plain_drive.specs.Plain.{Plain, with_registers, sector_value, words_of}
+use Rattle.ata_taskfile.specs.Order.{has_range}
+use Rattle.ata_taskfile.specs.Data.{moves_by_bus}
+use Rattle.ata_taskfile.specs.Device.{Device, Cell, with_bus}
+use Rattle.plain_drive.specs.Plain.{Plain, with_registers, with_cells, with_block, sector_value, words_of, appended, all_flushed}
+use Rattle.plain_drive.specs.Words.{bytes_of}
+use Rattle.plain_drive.specs.Identify.{identity}
 
--- a sector's words are loaded, and wait in Data (ATA/ATAPI-6, PIO data-in)
+-- a command that ends well: Idle, and an interrupt pends; Count and the LBA registers stay
+abbrev pub ended : Plain → Plain
+ended p = with_registers (announced Idle p.device.file) p
+
+-- a block waits in Data, or is wanted there, and an interrupt pends
+abbrev pub offered : Request → ℕ → List ℕ → Plain → Plain
+offered order done block p = with_registers (announced (Ready (Good order) done 256) p.device.file) (with_block block p)
+
+-- the words that a command gives: IDENTIFY DEVICE its own, any other those of the sector that is due (ATA/ATAPI-6, PIO data-in)
+abbrev pub words_due : Kind → ℕ → Device → List ℕ
+words_due kind.Identify s d = identity d.sectors
+words_due kind.Read s d = words_of (sector_value s d)
+words_due kind.Write s d = words_of (sector_value s d)
+words_due kind.Verify s d = words_of (sector_value s d)
+words_due kind.Flush s d = words_of (sector_value s d)
+words_due kind.Features s d = words_of (sector_value s d)
+
+-- a command that gives words: they are loaded, and wait in Data (ATA/ATAPI-6, PIO data-in)
 abbrev pub loaded : Request → ℕ → Plain → Plain
-loaded order done p =
-    with_registers (announced (Ready (Good order) done 256) p.device.file)
-    (record p { device = record p.device { block = words_of (sector_value (order.first + done) p.device) } })
+loaded order done p = offered order done (words_due order.kind (order.first + done) p.device) p
 
--- a good step of an order, one line for each kind; a kind that isn't built has none, and a read by DMA neither
-abbrev pub proceeded : Kind → Request → ℕ → Plain → Plain
-proceeded kind.Read order done p = if gives_words order.form then loaded order done p else p
-proceeded kind.Write order done p = p
-proceeded kind.Verify order done p = p
-proceeded kind.Flush order done p = p
-proceeded kind.Identify order done p = p
-proceeded kind.Features order done p = p
+-- the first block of a write is wanted in Data, without an interrupt (ATA/ATAPI-6, PIO data-out)
+abbrev pub first_wanted : Request → Plain → Plain
+first_wanted order p = with_registers (record p.device.file { phase = Ready (Good order) 0 256 }) (with_block [] p)
+
+-- the block that came is the newest value of its sector
+abbrev pub block_written : ℕ → Plain → Plain
+block_written s p = with_cells (appended s (bytes_of p.device.block) p.device.cells) p
+
+-- after a block was written: the next one is wanted, or the command has ended, and an interrupt pends (ATA/ATAPI-6, PIO data-out)
+abbrev pub next_wanted : Request → ℕ → Plain → Plain
+next_wanted order done p = if nat_lt done order.count then offered order done [] p else ended p
+
+-- a command that takes words: its first block is wanted, or the block that came is written (ATA/ATAPI-6, PIO data-out)
+abbrev pub received : Request → ℕ → Plain → Plain
+received order done p = if done == 0 then first_wanted order p else next_wanted order done (block_written (order.first + done - 1) p)
+
+-- the drive without the walk of its command, where the bus master moves that; active stays (own)
+abbrev pub without_walk : Form → Plain → Plain
+without_walk form p = if moves_by_bus form then record p { device = with_bus (walk_ended p.device.bus) p.device } else p
+
+-- a command that the bus master moves: below its count it waits for a walk, and at its count it ends (ATA/ATAPI-6, DMA; what a walk moves isn't built)
+abbrev pub transferred : Request → ℕ → Plain → Plain
+transferred order done p = if nat_lt done order.count then p else ended (without_walk order.form p)
+
+-- the store after a command without data: a flush makes every current value durable (ATA/ATAPI-6, FLUSH CACHE)
+abbrev pub cells_after : Kind → List Cell → List Cell
+cells_after kind.Flush cells = all_flushed cells
+cells_after kind.Read cells = cells
+cells_after kind.Write cells = cells
+cells_after kind.Verify cells = cells
+cells_after kind.Identify cells = cells
+cells_after kind.Features cells = cells
+
+-- a good step of an order, one line for each way in which its data moves
+abbrev pub proceeded : Form → Request → ℕ → Plain → Plain
+proceeded PioIn order done p = loaded order done p
+proceeded PioOut order done p = received order done p
+proceeded DmaIn order done p = transferred order done p
+proceeded DmaOut order done p = transferred order done p
+proceeded NoMove order done p = ended (with_cells (cells_after order.kind p.device.cells) p)
 
 -- a good step in a phase; Idle and Ready wait for the guest, and Reset while SRST is 1
 abbrev pub stepped : Phase → Plain → Plain
@@ -37,20 +91,40 @@ stepped Reset p = if holds_reset p.device.file then p else with_registers (reset
 stepped Idle p = p
 stepped (Ready taken done left) p = p
 stepped (Busy (Bad reason) done) p = with_registers (refused reason p.device.file) p
-stepped (Busy (Good order) done) p = proceeded order.kind order done p
+stepped (Busy (Good order) done) p = proceeded order.form order done p
 
 -- a step that goes well
 abbrev pub good_step : Plain → Plain
 good_step p = stepped p.device.file.phase p
 
--- the failed end of an order: its Error, and the sector that failed in the address registers
-abbrev pub given_up : Kind → Request → ℕ → Plain → Plain
-given_up kind.Read order done p = if gives_words order.form then with_registers (ended_failed UNC (addressed order.extended (order.first + done) p.device.file)) p else p
-given_up kind.Write order done p = p
-given_up kind.Verify order done p = p
-given_up kind.Flush order done p = p
-given_up kind.Identify order done p = p
-given_up kind.Features order done p = p
+-- the Error byte of an order that fails: a sector can't be had, or the command is given up (ATA/ATAPI-6, Error register; own: which for which)
+abbrev pub failure_bit : Kind → ℕ
+failure_bit kind.Read = UNC
+failure_bit kind.Write = ABRT
+failure_bit kind.Verify = UNC
+failure_bit kind.Flush = ABRT
+failure_bit kind.Identify = ABRT
+failure_bit kind.Features = ABRT
+
+-- the last of so many sectors from the first on; the first itself where there is none
+abbrev pub last_of : ℕ → ℕ → ℕ
+last_of first count = if count == 0 then first else first + count - 1
+
+-- the sector at which an order fails: the one that is read, the one whose block came last, the one that is moved or the last, and without data the first (own)
+abbrev pub failed_sector : Form → Request → ℕ → ℕ
+failed_sector PioIn order done = order.first + done
+failed_sector PioOut order done = last_of order.first done
+failed_sector DmaIn order done = if nat_lt done order.count then order.first + done else last_of order.first order.count
+failed_sector DmaOut order done = if nat_lt done order.count then order.first + done else last_of order.first order.count
+failed_sector NoMove order done = order.first
+
+-- the registers with the sector at which an order fails; those of a command without a range stay (own)
+abbrev pub failure_shown : Request → ℕ → TaskFile → TaskFile
+failure_shown order done f = if has_range order.kind then addressed order.extended (failed_sector order.form order done) f else f
+
+-- the failed end of an order: its Error, its sector, and its walk ends; no sector moves
+abbrev pub given_up : Request → ℕ → Plain → Plain
+given_up order done p = with_registers (ended_failed (failure_bit order.kind) (failure_shown order done p.device.file)) (without_walk order.form p)
 
 -- a bad step in a phase: it ends a command at which the drive is at work, and does nothing else
 abbrev pub failed_step : Phase → Plain → Plain
@@ -58,7 +132,7 @@ failed_step Reset p = p
 failed_step Idle p = p
 failed_step (Ready taken done left) p = p
 failed_step (Busy (Bad reason) done) p = with_registers (refused reason p.device.file) p
-failed_step (Busy (Good order) done) p = given_up order.kind order done p
+failed_step (Busy (Good order) done) p = given_up order done p
 
 -- a step at which the work in hand fails
 abbrev pub bad_step : Plain → Plain
@@ -69,14 +143,13 @@ abbrev pub step_made : Step → Plain → Plain
 step_made step.Good p = good_step p
 step_made step.Bad p = bad_step p
 
--- a kind of command that makes steps, in this form
-abbrev pub proceeds : Kind → Form → Bool
-proceeds kind.Read form = gives_words form
-proceeds kind.Write form = false
-proceeds kind.Verify form = false
-proceeds kind.Flush form = false
-proceeds kind.Identify form = false
-proceeds kind.Features form = false
+-- a good step of an order has an effect, but for one that waits for a walk
+abbrev pub proceeds : Form → Request → ℕ → Bool
+proceeds PioIn order done = true
+proceeds PioOut order done = true
+proceeds DmaIn order done = not (nat_lt done order.count)
+proceeds DmaOut order done = not (nat_lt done order.count)
+proceeds NoMove order done = true
 
 -- whether a step has an effect in a phase
 abbrev pub acts_in : Step → Phase → Plain → Bool
@@ -85,7 +158,8 @@ acts_in step.Bad Reset p = false
 acts_in s Idle p = false
 acts_in s (Ready taken done left) p = false
 acts_in s (Busy (Bad reason) done) p = true
-acts_in s (Busy (Good order) done) p = proceeds order.kind order.form
+acts_in step.Good (Busy (Good order) done) p = proceeds order.form order done
+acts_in step.Bad (Busy (Good order) done) p = true
 
 -- whether a step has an effect
 abbrev pub acts : Step → Plain → Bool
