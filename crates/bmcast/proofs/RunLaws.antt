@@ -7,7 +7,8 @@ use Rattle.ata_taskfile.specs.Device.{Device, powered_on}
 use Rattle.plain_drive.specs.Plain.{Plain, plain, stored, sectors_in, durable_bytes}
 use Rattle.plain_drive.specs.Cut.{IsOutcome}
 use Rattle.plain_drive.proofs.Stores.{durable_bytes-stored}
-use Rattle.plain_run.proofs.Unwritten.{run-cells}
+use Rattle.plain_run.proofs.Unwritten.{IsUnwritten, run-cells}
+use Rattle.drive_model.proofs.Sectors.{flushed-stored}
 use Rattle.schedule_text.specs.Report.{end_text}
 use Rattle.schedule_text.specs.Schedule.{IsSchedule}
 use Rattle.plain_run.specs.Entry.{events_of, history_text, report_text}
@@ -74,6 +75,10 @@ stopped s0 s1 o0 o1 before after number kind ready none taken failed same empty 
       report = IfTold-weaker (o1.told Report) _ _ (λ written said. sym (append-nil written) ∙ ap (λ xs. written ++ xs) (sym empty) ∙ said) h.said;
     }
 
+-- nothing has come to be written to a drive at power-on
+begins_unwritten : (before : Device) (values : List (List ℕ)) (n : ℕ) → before ≡ powered_on (stored values) n → IsUnwritten before
+begins_unwritten before values n began = rw began (record { block = refl; durable = flushed-stored values })
+
 -- out is the disk, since nothing was written
 unwritten_out : (disk out : List ℕ) (size : ℕ) (before after : Device) → size % 512 ≡ 0 → length disk ≡ size
     → before ≡ powered_on (stored (sectors_in (size / 512) disk)) (size / 512) → after.cells ≡ before.cells
@@ -120,7 +125,7 @@ done o1 o2 o3 o4 o5 before after size left loaded played written whole long bega
   outcome = outcome;
   unwritten = IfTold-both (o1.told Disk) _ _ _
       (λ disk is n. IfTold-weaker (o5.told Out) (λ bytes. bytes ≡ durable_bytes after.cells) (λ bytes. bytes ≡ disk)
-      (λ bytes e. unwritten_out disk bytes size before after whole n is (run-cells (plain before []) told.entries (plain after []) told.run) e) out)
+      (λ bytes e. unwritten_out disk bytes size before after whole n is (run-cells (plain before []) told.entries (plain after []) told.run (begins_unwritten before _ _ is)) e) out)
       (subst (λ o. IfTold o (λ disk. before ≡ powered_on (stored (sectors_in (size / 512) disk)) (size / 512))) (left Disk read_disk) began) long;
 }
 

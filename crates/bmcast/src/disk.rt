@@ -1,10 +1,11 @@
 //! The disk's bytes: read before the run, and written after it.
 
-ghost use Rattle.std.specs.Prelude.{◌≡◌, ◌+◌, ◌*◌, ◌%◌, ◌/◌, ◌≤◌, ◌<◌, ◌++◌, ℕ, List, [], take, length, IfErr, IfOk, OnOk, vec_len};
+ghost use Rattle.std.specs.Prelude.{◌≡◌, ◌+◌, ◌*◌, ◌%◌, ◌/◌, ◌≤◌, ◌<◌, ◌++◌, ℕ, List, [], take, length, IfErr, IfOk, OnOk, vec_len, false};
 ghost use Rattle.bm_host.specs.Outside.{IfTold, SameBytes};
 ghost use Rattle.bm_host.specs.declared.Role.TheVariants.{Disk, Out};
 ghost use Rattle.ata_taskfile.specs.Device.{powered_on};
 ghost use Rattle.plain_drive.specs.Plain.{stored, sectors_in, durable_bytes, durable_value};
+ghost use Rattle.plain_drive.specs.Step.{has_block};
 ghost use Rattle.plain_drive.specs.Cut.{IsOutcome};
 ghost use Rattle.drive_model.specs.Drive.{device_of};
 ghost use Rattle.bmcast.specs.Stop.{Ended, IsFault, IsLateFault};
@@ -26,6 +27,7 @@ pub fn load<H: Host>(alloc: Global, host: &mut H, size: u64) -> Result<Drive, St
     ensures late { IfErr result IsLateFault }
     ensures counts { Ended result (H.outside host.old) (H.outside host.new) }
     ensures bytes { SameBytes (H.outside host.old) (H.outside host.new) }
+    ensures unwritten { IfOk result (λ drive. has_block (device_of drive).file.phase ≡ false) }
     ensures drive { IfOk result (λ drive. IfTold ((H.outside host.old).told Disk)
         (λ bytes. device_of drive ≡ powered_on (stored (sectors_in (size / 512) bytes)) (size / 512))) }
 {

@@ -1,7 +1,8 @@
 //! One event of the schedule, on the drive.
 
-ghost use Rattle.std.specs.Prelude.{◌≡◌, ◌≤◌, ◌<◌, ◌+◌, ◌++◌, ℕ, List, [], ◌∷◌, length};
+ghost use Rattle.std.specs.Prelude.{◌≡◌, ◌≤◌, ◌<◌, ◌+◌, ◌++◌, ℕ, List, [], ◌∷◌, length, false};
 ghost use Rattle.plain_drive.specs.Plain.{plain};
+ghost use Rattle.plain_drive.specs.Step.{has_block};
 ghost use Rattle.drive_model.specs.Drive.{device_of};
 ghost use Rattle.plain_run.specs.Entry.{commands_in, entry_of};
 ghost use Rattle.plain_drive.specs.Words.{words_read, after_words, bytes_of};
@@ -16,12 +17,16 @@ use drive_model::Drive;
 use schedule_text::{Emitted, Event, Item};
 
 /// Lets the drive act as one event says, and tells what the report says of it.
+///
+/// No event writes words to Data yet, so no block comes that the drive has to write.
 pub fn apply(drive: &mut Drive, event: &Event, out: &mut Emitted)
+    requires unwritten { has_block (device_of drive.old).file.phase ≡ false }
     requires in_range { IsInRange event.now }
     requires items { out.old.items.items ≡ [] }
     requires bytes { out.old.bytes.items ≡ [] }
     ensures event { DirectEvent (plain (device_of drive.old) [])
         (entry_of event.now out.new.items.items out.new.bytes.items) (plain (device_of drive.new) []) }
+    ensures unwritten { has_block (device_of drive.new).file.phase ≡ false }
 {
     let was_taken = is_just_taken(drive.file());
     act(drive, event, out);
@@ -32,6 +37,7 @@ pub fn apply(drive: &mut Drive, event: &Event, out: &mut Emitted)
 
 // The event's access or step, with its answer or plan item.
 fn act(drive: &mut Drive, event: &Event, out: &mut Emitted)
+    requires unwritten { has_block (device_of drive.old).file.phase ≡ false }
     requires in_range { IsInRange event.now }
     requires items { out.old.items.items ≡ [] }
     requires bytes { out.old.bytes.items ≡ [] }
@@ -76,6 +82,7 @@ fn read_words(drive: &mut Drive, n: u32, out: &mut Emitted)
 
 // A good step that has an effect is told; the failing step isn't built.
 fn make_step(drive: &mut Drive, step: Step, out: &mut Emitted)
+    requires unwritten { has_block (device_of drive.old).file.phase ≡ false }
     requires built { step ≡ Step.Good }
     requires items { out.old.items.items ≡ [] }
     requires bytes { out.old.bytes.items ≡ [] }

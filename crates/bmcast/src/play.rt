@@ -1,9 +1,10 @@
 //! The events of the schedule, read, done and reported one line at a time.
 
-ghost use Rattle.std.specs.Prelude.{◌≡◌, ◌≢◌, ◌≤◌, ◌<◌, ◌+◌, ◌++◌, ◌^◌, ℕ, List, [], ◌∷◌, length, IfErr, IfOk, OnOk};
+ghost use Rattle.std.specs.Prelude.{◌≡◌, ◌≢◌, ◌≤◌, ◌<◌, ◌+◌, ◌++◌, ◌^◌, ℕ, List, [], ◌∷◌, length, IfErr, IfOk, OnOk, false};
 ghost use Rattle.bm_host.specs.Outside.{Outside, IfTold};
 ghost use Rattle.bm_host.specs.declared.Role.TheVariants.{Schedule};
 ghost use Rattle.plain_drive.specs.Plain.{plain, Plain};
+ghost use Rattle.plain_drive.specs.Step.{has_block};
 ghost use Rattle.drive_model.specs.Drive.{device_of};
 ghost use Rattle.schedule_text.specs.Line.{Says, IsInRange};
 ghost use Rattle.schedule_text.specs.declared.Event.{Event as EventOf};
@@ -89,12 +90,14 @@ fn do_event<H: Host>(
     number: u32,
     out: &mut Emitted,
 ) -> Result<(), Stop>
-    requires { IsInRange event.now }
+    requires unwritten { has_block (device_of drive.old).file.phase ≡ false }
+    requires in_range { IsInRange event.now }
     ensures counts { Ended result (H.outside host.old) (H.outside host.new) }
     ensures fault { IfErr result IsFault }
     ensures files { KeepsFiles (H.outside host.old) (H.outside host.new) }
     ensures event { DirectEvent (plain (device_of drive.old) [])
         (entry_of event.now out.new.items.items out.new.bytes.items) (plain (device_of drive.new) []) }
+    ensures unwritten { has_block (device_of drive.new).file.phase ≡ false }
     ensures said { OnOk result ((text : List ℕ) → Said streams.old (H.outside host.old) text
         → Said streams.new (H.outside host.new)
         (text ++ items_text number out.new.items.items out.new.bytes.items)) }
@@ -115,7 +118,9 @@ fn take_line<H: Host>(
     out: &mut Emitted,
     number: u32,
 ) -> Result<Event, Stop>
-    requires { number ≤ LAST_LINE }
+    requires unwritten { has_block (device_of drive.old).file.phase ≡ false }
+    requires number { number ≤ LAST_LINE }
+    ensures unwritten { has_block (device_of drive.new).file.phase ≡ false }
     ensures play { IfErr result IsPlayStop }
     ensures counts { Ended result (H.outside host.old) (H.outside host.new) }
     ensures files { KeepsFiles (H.outside host.old) (H.outside host.new) }
@@ -165,7 +170,9 @@ fn play_line<H: Host>(
     out: &mut Emitted,
     number: u32,
 ) -> Result<Progress, Stop>
-    requires { number ≤ LAST_LINE }
+    requires unwritten { has_block (device_of drive.old).file.phase ≡ false }
+    requires number { number ≤ LAST_LINE }
+    ensures unwritten { has_block (device_of drive.new).file.phase ≡ false }
     ensures play { IfErr result IsPlayStop }
     ensures counts { Ended result (H.outside host.old) (H.outside host.new) }
     ensures files { KeepsFiles (H.outside host.old) (H.outside host.new) }
@@ -193,6 +200,7 @@ fn play_line<H: Host>(
 
 /// Reads, does and reports the events of the schedule to its end, and answers the number of its line `end`.
 pub fn play<H: Host>(host: &mut H, streams: &mut Streams, drive: &mut Drive) -> Result<u32, Stop>
+    requires { has_block (device_of drive.old).file.phase ≡ false }
     ensures play { IfErr result IsPlayStop }
     ensures counts { Ended result (H.outside host.old) (H.outside host.new) }
     ensures files { KeepsFiles (H.outside host.old) (H.outside host.new) }

@@ -1,9 +1,10 @@
 //! A whole run, step by step: words, lengths, files, disk, events, report and out.
 
-ghost use Rattle.std.specs.Prelude.{◌≡◌, ◌/◌, ◌*◌, ◌%◌, ◌⊎◌, ℕ, List, [], length, IfErr, OnOk, IfOk};
+ghost use Rattle.std.specs.Prelude.{◌≡◌, ◌/◌, ◌*◌, ◌%◌, ◌⊎◌, ℕ, List, [], length, IfErr, OnOk, IfOk, false};
 ghost use Rattle.bm_host.specs.Outside.{IfTold};
 ghost use Rattle.bm_host.specs.declared.Role.TheVariants.{Disk, Out};
 ghost use Rattle.plain_drive.specs.Plain.{plain, Plain};
+ghost use Rattle.plain_drive.specs.Step.{has_block};
 ghost use Rattle.drive_model.specs.Drive.{device_of};
 ghost use Rattle.run_words.specs.Pairs.{texts};
 ghost use Rattle.bmcast.specs.Kept.{IsUnopened, LeavesFiles};
@@ -97,7 +98,8 @@ fn begin_files<H: Host>(host: &mut H, options: &Options<'_>) -> Result<(), Stop>
 
 // Plays the schedule to its end, and writes the report; the same up to a line that is bad.
 fn report_run<H: Host>(host: &mut H, drive: &mut Drive) -> Result<(), Stop>
-    requires { IsReady (H.outside host.old) }
+    requires ready { IsReady (H.outside host.old) }
+    requires unwritten { has_block (device_of drive.old).file.phase ≡ false }
     ensures counts { Ended result (H.outside host.old) (H.outside host.new) }
     ensures files { KeepsFiles (H.outside host.old) (H.outside host.new) }
     ensures play { IfErr result IsPlayStop }
@@ -118,6 +120,7 @@ fn report_run<H: Host>(host: &mut H, drive: &mut Drive) -> Result<(), Stop>
 
 // Plays the schedule. Where a line isn't one, the report of the events before it is written all the same.
 fn play_to_end<H: Host>(host: &mut H, streams: &mut Streams, drive: &mut Drive) -> Result<u32, Stop>
+    requires { has_block (device_of drive.old).file.phase ≡ false }
     ensures counts { Ended result (H.outside host.old) (H.outside host.new) }
     ensures files { KeepsFiles (H.outside host.old) (H.outside host.new) }
     ensures play { IfErr result IsPlayStop }

@@ -1,3 +1,3 @@
-mod Sectors
+pub mod Sectors
 mod Blocks
-mod Writes
+pub mod Writes

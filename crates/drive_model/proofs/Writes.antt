@@ -3,7 +3,8 @@ use Rattle.std.proofs.Common.{◌≡◌, ◌≢◌, ◌+◌, ◌-◌, ℕ, List,
 use Rattle.std.specs.Prelude.{Bool, if◌then◌else◌, nat_lt}
 use Rattle.ata_taskfile.specs.declared.Request.{Request}
 use Rattle.plain_drive.specs.Plain.{Plain, stored, all_flushed, with_cells}
-use Rattle.plain_drive.specs.Step.{received, first_wanted, next_wanted, block_written, offered, ended}
+use Rattle.plain_drive.specs.Step.{received, first_wanted, next_wanted, block_written, offered, ended, good_step, has_block}
+use Rattle.plain_drive.proofs.Blocks.{good_step-cells}
 use Rattle.drive_model.specs.Durable.{all_durable}
 use Rattle.drive_model.proofs.Sectors.{flushed-stored}
 
@@ -28,3 +29,10 @@ next-durable order done p = either (nat_lt done order.count)
     either : (more : Bool) → all_durable (if more then offered order done [] p else ended p) ≡ (if more then offered order done [] (all_durable p) else ended (all_durable p))
     either true = refl
     either false = refl
+
+-- where no block has come, a good step leaves every value durable
+pub good_step-durable : (p : Plain) (values : List (List ℕ)) → p.device.cells ≡ stored values → has_block p.device.file.phase ≡ false
+    → all_durable (good_step p) ≡ good_step p
+good_step-durable p values e none =
+    let durable : all_flushed p.device.cells ≡ p.device.cells = ap all_flushed e ∙ flushed-stored values ∙ sym e in
+    stays (good_step p) values (good_step-cells p none durable ∙ e)

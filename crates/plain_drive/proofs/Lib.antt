@@ -3,3 +3,4 @@ mod Words
 pub mod Steps
 pub mod Stores
 pub mod Ends
+pub mod Blocks

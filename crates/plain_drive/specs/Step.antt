@@ -1,5 +1,5 @@
 -- The steps of a plain drive, by the phase of the command in hand.
-use Rattle.std.specs.Prelude.{ℕ, Bool, true, false, not, ◌+◌, ◌-◌, ◌==◌, if◌then◌else◌, nat_lt, List, []}
+use Rattle.std.specs.Prelude.{ℕ, Bool, true, false, not, ◌&&◌, ◌+◌, ◌-◌, ◌==◌, if◌then◌else◌, nat_lt, List, []}
 use Rattle.ata_taskfile.specs.declared.Kind.{Kind}
 use Rattle.ata_taskfile.specs.declared.Kind.TheVariants as kind
 use Rattle.ata_taskfile.specs.declared.Form.{Form}
@@ -17,7 +17,7 @@ use Rattle.ata_taskfile.specs.declared.task_file.TaskFile.{TaskFile}
 use Rattle.ata_taskfile.specs.Bus.{walk_ended}
 use Rattle.ata_taskfile.specs.TaskFile.{holds_reset, reset_ended, refused, announced, ended_failed, addressed}
 use Rattle.ata_taskfile.specs.Order.{has_range}
-use Rattle.ata_taskfile.specs.Data.{moves_by_bus}
+use Rattle.ata_taskfile.specs.Data.{takes_words, moves_by_bus}
 use Rattle.ata_taskfile.specs.Device.{Device, Cell, with_bus}
 use Rattle.plain_drive.specs.Plain.{Plain, with_registers, with_cells, with_block, sector_value, words_of, appended, all_flushed}
 use Rattle.plain_drive.specs.Words.{bytes_of}
@@ -169,3 +169,11 @@ acts s p = acts_in s p.device.file.phase p
 abbrev pub stepped_if : Bool → Stepped
 stepped_if true = Changed
 stepped_if false = Nothing
+
+-- a block has come that the drive has still to write
+abbrev pub has_block : Phase → Bool
+has_block Reset = false
+has_block Idle = false
+has_block (Busy (Good order) done) = takes_words order.form && not (done == 0)
+has_block (Busy (Bad reason) done) = false
+has_block (Ready taken done left) = false
