@@ -11,6 +11,8 @@
 mod drive;
 mod identify;
 mod ports;
+#[cfg(test)]
+mod runs;
 mod steps;
 #[cfg(test)]
 mod tests;

@@ -4,6 +4,7 @@ ghost use Rattle.std.specs.Prelude.{◌≡◌, IfOk};
 ghost use Rattle.drive_model.specs.Drive.{device_of};
 
 use crate::Drive;
+use crate::identify::identity;
 use ata_taskfile::{Access, Answer, Ports, Reg, Step, Stepped, perform};
 use std::alloc::{AllocError, Global};
 use std::test::Fail;
@@ -205,4 +206,63 @@ fn a_reset_ends_the_walk_of_its_command(rt: HostRuntime) -> Result<(), Fail> {
         assert_eq!(rt; drive.read8(Reg::Status), 0x50, "{command:x}");
     }
     Ok(())
+}
+
+// The words that aren't 0, from the texts in pairs with the first character high, and from the rules of the others.
+#[test]
+fn words_of_identify(rt: HostRuntime) -> Result<(), Fail> {
+    let words = [
+        // `BMC00000000000000001` in 10 to 19.
+        (10, 0x424d),
+        (11, 0x4330),
+        (12, 0x3030),
+        (13, 0x3030),
+        (14, 0x3030),
+        (15, 0x3030),
+        (16, 0x3030),
+        (17, 0x3030),
+        (18, 0x3030),
+        (19, 0x3031),
+        // `1.0` in 23 to 26.
+        (23, 0x312e),
+        (24, 0x3020),
+        (25, 0x2020),
+        (26, 0x2020),
+        // `BMCAST DRIVE` in 27 to 46, where spaces follow.
+        (27, 0x424d),
+        (28, 0x4341),
+        (29, 0x5354),
+        (30, 0x2044),
+        (31, 0x5249),
+        (32, 0x5645),
+        (49, 0x0300),
+        (60, 2),
+        (82, 0x0020),
+        (83, 0x7400),
+        (85, 0x0020),
+        (100, 2),
+    ];
+    let mut want = [0u16; 256];
+    for (place, word) in words {
+        want[place] = word;
+    }
+    for place in 33..=46usize {
+        want[place] = 0x2020;
+    }
+    let mut drive = two_sectors(rt.alloc())?;
+    drive.step(Step::Good);
+    drive.write8(Reg::Status, 0xec);
+    drive.step(Step::Good);
+    for (place, word) in want.iter().enumerate() {
+        assert_eq!(rt; drive.read_word(), *word, "word {place}");
+    }
+    Ok(())
+}
+
+#[test]
+fn a_large_count_in_identify(rt: HostRuntime) {
+    let words = identity(0x0123_4567_89ab_cdef);
+    assert_eq!(rt; [words[60], words[61], words[62]], [0xcdef, 0x89ab, 0]);
+    assert_eq!(rt; [words[99], words[100], words[101]], [0, 0xcdef, 0x89ab]);
+    assert_eq!(rt; [words[102], words[103], words[104]], [0x4567, 0x0123, 0]);
 }

@@ -1,6 +1,5 @@
 -- Steps while no block has come.
-use Rattle.std.proofs.Common.{◌≡◌, ℕ, List, false, true, refl, ap, ◌∙◌, arith}
-use Rattle.std.specs.Prelude.{Bool, if◌then◌else◌, nat_lt}
+use Rattle.std.proofs.Common.{◌≡◌, ℕ, List, false, refl, arith}
 use Rattle.ata_taskfile.specs.declared.Kind.{Kind}
 use Rattle.ata_taskfile.specs.declared.Kind.TheVariants as kind
 use Rattle.ata_taskfile.specs.declared.Form.{Form}
@@ -11,7 +10,7 @@ use Rattle.ata_taskfile.specs.declared.Phase.{Phase}
 use Rattle.ata_taskfile.specs.declared.Phase.TheVariants.{Reset, Idle, Busy, Ready}
 use Rattle.ata_taskfile.specs.Device.{Cell}
 use Rattle.plain_drive.specs.Plain.{Plain, all_flushed}
-use Rattle.plain_drive.specs.Step.{has_block, proceeded, transferred, received, stepped, good_step, cells_after, without_walk, ended}
+use Rattle.plain_drive.specs.Step.{has_block, proceeded, transferred, stepped, good_step, cells_after}
 
 -- a command without data, over values that are all durable
 cells_after-durable : (k : Kind) (cells : List Cell) → all_flushed cells ≡ cells → cells_after k cells ≡ cells

@@ -2,7 +2,7 @@
 use Rattle.std.proofs.Common.{◌≡◌, ◌≢◌, ℕ, Bool, true, false, ◌+◌, ◌-◌, ◌<◌, ◌≤◌, refl, arith}
 use Rattle.std.specs.Prelude.{if◌then◌else◌}
 use Rattle.ata_taskfile.specs.declared.Phase.{Phase}
-use Rattle.ata_taskfile.specs.declared.Phase.TheVariants.{Reset, Idle, Busy, Ready}
+use Rattle.ata_taskfile.specs.declared.Phase.TheVariants.{Idle, Busy, Ready}
 use Rattle.ata_taskfile.specs.declared.Request.{Request}
 use Rattle.ata_taskfile.specs.declared.Taken.TheVariants.{Good}
 use Rattle.ata_taskfile.specs.declared.task_file.TaskFile.{TaskFile}
@@ -11,7 +11,7 @@ use Rattle.ata_taskfile.specs.TaskFile.{ended_failed, announced, addressed}
 use Rattle.ata_taskfile.specs.Bus.{walk_ended}
 use Rattle.ata_taskfile.specs.Order.{has_range}
 use Rattle.ata_taskfile.specs.Data.{gives_words, takes_words, moves_by_bus}
-use Rattle.ata_taskfile.specs.Lawful.{end_of, words_in, AreLawful, IsLawfulState}
+use Rattle.ata_taskfile.specs.Lawful.{AreLawful, IsLawfulState}
 use Rattle.plain_drive.specs.Step.{failure_shown}
 
 -- a command that ends well

@@ -9,7 +9,7 @@ use Rattle.ata_taskfile.specs.declared.Phase.TheVariants.{Reset, Idle, Busy, Rea
 use Rattle.ata_taskfile.specs.declared.Step.{Step}
 use Rattle.ata_taskfile.specs.declared.Step.TheVariants as step
 use Rattle.plain_drive.specs.Plain.{Plain}
-use Rattle.plain_drive.specs.Step.{proceeds, proceeded, transferred, acts, acts_in, stepped, failed_step, good_step, bad_step, step_made}
+use Rattle.plain_drive.specs.Step.{proceeds, proceeded, acts, acts_in, stepped, failed_step, good_step, bad_step, step_made}
 
 -- an order that makes no step
 proceeded_no : (form : Form) (order : Request) (done : ℕ) (p : Plain) → proceeds form order done ≡ false → proceeded form order done p ≡ p
@@ -41,3 +41,14 @@ good_step_no p idle = stepped_no p.device.file.phase p idle
 pub step_made_no : (s : Step) (p : Plain) → acts s p ≡ false → step_made s p ≡ p
 step_made_no step.Good p idle = good_step_no p idle
 step_made_no step.Bad p idle = failed_no p.device.file.phase p idle
+
+-- a failing step moves no sector
+failed-cells : (phase : Phase) (p : Plain) → (failed_step phase p).device.cells ≡ p.device.cells
+failed-cells Reset p = refl
+failed-cells Idle p = refl
+failed-cells (Ready taken done left) p = refl
+failed-cells (Busy (Bad reason) done) p = refl
+failed-cells (Busy (Good order) done) p = grind arith
+
+pub bad_step-cells : (p : Plain) → (bad_step p).device.cells ≡ p.device.cells
+bad_step-cells p = failed-cells p.device.file.phase p

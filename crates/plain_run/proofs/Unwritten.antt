@@ -1,18 +1,16 @@
 -- A run in which no block comes to the drive, since no event writes words yet: no sector gets another value.
-use Rattle.std.proofs.Common.{◌≡◌, ℕ, Bool, true, false, zero, suc, List, [], ◌∷◌, refl, sym, ap, ◌∙◌, arith}
+use Rattle.std.proofs.Common.{◌≡◌, ℕ, false, zero, suc, List, [], ◌∷◌, refl, ◌∙◌, arith}
 use Rattle.ata_taskfile.specs.declared.Reg.{Reg}
-use Rattle.ata_taskfile.specs.declared.Reg.TheVariants as reg
 use Rattle.ata_taskfile.specs.declared.Phase.{Phase}
 use Rattle.ata_taskfile.specs.declared.task_file.TaskFile.{TaskFile}
 use Rattle.ata_taskfile.specs.declared.Wrote.{Wrote}
 use Rattle.ata_taskfile.specs.declared.Wrote.TheVariants.{Stored, Ignored, Command, ResetBegun}
-use Rattle.ata_taskfile.specs.TaskFile.{is_of_bus, wrote, after_read, after_write, stored, controlled}
-use Rattle.ata_taskfile.specs.Bus.{bus_written}
+use Rattle.ata_taskfile.specs.TaskFile.{wrote, after_write, stored}
 use Rattle.ata_taskfile.specs.Data.{phase_after_read}
-use Rattle.ata_taskfile.specs.Device.{Device, with_bus, after_read8, after_write8, after_wrote, after_read_word}
+use Rattle.ata_taskfile.specs.Device.{Device, after_read8, after_write8, after_wrote, after_read_word}
 use Rattle.ata_taskfile.proofs.Cells.{write8-cells}
 use Rattle.plain_drive.specs.Plain.{Plain, all_flushed}
-use Rattle.plain_drive.specs.Step.{good_step, has_block}
+use Rattle.plain_drive.specs.Step.{has_block}
 use Rattle.plain_drive.specs.Words.{after_words}
 use Rattle.plain_drive.proofs.Blocks.{good_step-cells, good_step-block}
 use Rattle.schedule_text.specs.declared.Event.{Event}
