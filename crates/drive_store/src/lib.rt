@@ -1,0 +1,21 @@
+//! The store of a drive: its durable sectors, wherever they lie.
+//!
+//! Start with `Store`, the trait that a drive reaches its sectors by. `MemoryStore` keeps them in memory.
+//!
+//! `specs/Store.antt` says what a store holds and what a call owes, and `specs/MemoryStore.antt` what a store in
+//! memory tells.
+
+#![tactic(auto)]
+
+mod memory_store;
+mod store;
+#[cfg(test)]
+mod tests;
+
+pub use memory_store::MemoryStore;
+pub use std::alloc::AllocError as NoMemory;
+pub use store::Store;
+
+/// A call to a store failed. Its count of faults rose.
+#[derive(Clone, Copy, Debug, PartialEq, Eq)]
+pub struct StoreFault;

@@ -1,0 +1,4 @@
+mod Rings
+mod Reverse
+mod Taking
+pub mod Values
