@@ -1,16 +1,19 @@
 -- An entry that is taken out of the middle of a ring.
-use Rattle.std.proofs.Common.{◌≡◌, ℕ, ◌+◌, ◌-◌, ◌≤◌, not, List, ◌++◌, length, take, drop, slice_get, Some, sym, ap, ◌∙◌, arith, length-append, length-take, length-drop}
+use Rattle.std.proofs.Common.{◌≡◌, ℕ, ◌+◌, ◌-◌, ◌≤◌, not, List, ◌++◌, length, take, drop, slice_get, Option, Some, None, sym, ap, ◌∙◌, arith, length-append, length-take, length-drop}
 use Rattle.circular_buffer.specs.Buffer.{Buffer, buffer}
 use Rattle.write_cache.specs.declared.entry.Entry.{Entry}
 use Rattle.write_cache.specs.Cache.{is_of, entries_but, taken, taken_at}
 use Rattle.write_cache.proofs.Rings.{length-filter-le, taken_first, taken_out}
 
--- fewer are left than there were
-pub length-taken_at-le : (k : ℕ) (xs : List Entry) (x : Entry) → slice_get xs k ≡ Some x → length (taken_at k xs) ≤ length xs
-length-taken_at-le k xs x there =
+length-taken-le : (o : Option Entry) (k : ℕ) (xs : List Entry) → length (taken o k xs) ≤ length xs
+length-taken-le None k xs = omega arith
+length-taken-le (Some x) k xs =
     let kept = entries_but x.sector (take k xs) in
-    let is : length (taken_at k xs) ≡ length (kept ++ drop (k + 1) xs) = ap (λ o. length (taken o k xs)) there in
-    omega (arith, is, length-append kept (drop (k + 1) xs), length-filter-le (λ e. not (is_of x.sector e)) (take k xs), length-take k xs, length-drop (k + 1) xs)
+    omega (arith, length-append kept (drop (k + 1) xs), length-filter-le (λ e. not (is_of x.sector e)) (take k xs), length-take k xs, length-drop (k + 1) xs)
+
+-- no more are left than there were
+pub length-taken_at-le : (k : ℕ) (xs : List Entry) → length (taken_at k xs) ≤ length xs
+length-taken_at-le k xs = length-taken-le (slice_get xs k) k xs
 
 -- the older ones pass, the entry goes, and those that stay come back
 module _ (old passed : Buffer Entry) (k : ℕ) (x : Entry) (there : slice_get old.items k ≡ Some x)

@@ -7,7 +7,7 @@ use Rattle.std.proofs.lemmas.List.{map-append, reverse-append}
 use Rattle.std.proofs.lemmas.List.Elements.{filter-append}
 use Rattle.std.proofs.lemmas.Option.{slice_get_within, get_or_from_slice_get}
 use Rattle.write_cache.specs.declared.entry.Entry.{Entry}
-use Rattle.write_cache.specs.Cache.{Cached, entries_kept, written, is_of, entries_of, entries_but, values_of, newest_of, taken, taken_at}
+use Rattle.write_cache.specs.Cache.{is_of, entries_of, entries_but, values_of, newest_of, taken, taken_at}
 
 module _ {X : Type 0} where
   -- a filter that keeps all that another asks for changes nothing for it
@@ -76,12 +76,6 @@ values_of_own e = ap (λ l. reverse (map (λ (x : Entry). x.bytes) l)) (cond-tru
 
 values_of_another : (s : ℕ) (e : Entry) → e.sector ≢ s → values_of s (e ∷ []) ≡ []
 values_of_another s e apart = ap (λ l. reverse (map (λ (x : Entry). x.bytes) l)) (cond-false (eqb e.sector s) (e ∷ []) [] (ne_eqb e.sector s apart))
-
-pub written_own : (e : Entry) (c : Cached) → values_of e.sector (written e c).entries ≡ e.bytes ∷ values_of e.sector (entries_kept c)
-written_own e c = values_of-append e.sector (entries_kept c) (e ∷ []) ∙ ap (λ l. l ++ values_of e.sector (entries_kept c)) (values_of_own e)
-
-pub written_another : (e : Entry) (c : Cached) (s : ℕ) → e.sector ≢ s → values_of s (written e c).entries ≡ values_of s (entries_kept c)
-written_another e c s apart = values_of-append s (entries_kept c) (e ∷ []) ∙ ap (λ l. l ++ values_of s (entries_kept c)) (values_of_another s e apart)
 
 pub newest_leads : (s : ℕ) (xs : List Entry) → option_map (λ e. e.bytes) (newest_of s xs) ≡ slice_get (values_of s xs) 0
 newest_leads s xs =

@@ -15,11 +15,11 @@ entry_of sector bytes = record { sector = sector; bytes = bytes }
 abbrev pub holding : List Entry → Cached → Cached
 holding entries c = record c { entries = entries }
 
--- no entry is left to be had without one that goes
+-- whether the entries fill the room
 abbrev pub is_full : Cached → Bool
 is_full c = length c.entries == c.room
 
--- the entries that stay where one is written: all but the oldest where there is no room, else all
+-- the entries that stay where one is written: all, or all but the oldest where they fill the room
 abbrev pub entries_kept : Cached → List Entry
 entries_kept c = if is_full c then drop 1 c.entries else c.entries
 
@@ -27,7 +27,7 @@ entries_kept c = if is_full c then drop 1 c.entries else c.entries
 abbrev pub written : Entry → Cached → Cached
 written entry c = holding (entries_kept c ++ entry ∷ []) c
 
--- the entry that a written one puts out: the oldest where there is no room, else none (own)
+-- the entry that a written one puts out: the oldest where they fill the room, else none (own)
 abbrev pub put_out : Cached → Option Entry
 put_out c = if is_full c then slice_get c.entries 0 else None
 
@@ -51,11 +51,12 @@ values_of sector entries = reverse (map (λ entry. entry.bytes) (entries_of sect
 abbrev pub newest_of : ℕ → List Entry → Option Entry
 newest_of sector entries = find (is_of sector) (reverse entries)
 
--- without this entry at place k and the older ones of its sector; without an entry there, all stay (own)
+-- what stays where this entry at place k is taken: of those before it the ones of other sectors, and all behind it;
+-- where there is none, all stay (own)
 abbrev pub taken : Option Entry → ℕ → List Entry → List Entry
 taken None k entries = entries
 taken (Some entry) k entries = entries_but entry.sector (take k entries) ++ drop (k + 1) entries
 
--- without entry k and the older ones of its sector
+-- what stays where entry k is taken
 abbrev pub taken_at : ℕ → List Entry → List Entry
 taken_at k entries = taken (slice_get entries k) k entries

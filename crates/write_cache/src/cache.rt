@@ -4,7 +4,7 @@ ghost use Rattle.std.specs.Prelude.{◌≡◌, ◌≤◌, [], length, drop, slic
 ghost use Rattle.write_cache.specs.Cache.{entry_of, holding, newest_of, put_out, taken_at, written};
 
 use crate::Entry;
-use crate::ring::{bring_back, pass_older};
+use crate::ring::take_out;
 use circular_buffer::HeapCircularBuffer;
 use std::alloc::{AllocError, Global};
 use std::marker::Model;
@@ -67,12 +67,7 @@ impl Cache {
         ensures after { self.new ≡ holding (taken_at k self.old.entries) self.old }
         ensures entry { result ≡ slice_get self.old.entries k }
     {
-        let k = k as usize;
-        let sector = self.ring.get(k)?.sector;
-        let passed = pass_older(&mut self.ring, sector, k);
-        let taken = self.ring.pop_front();
-        bring_back(&mut self.ring, passed);
-        taken
+        take_out(&mut self.ring, k as usize)
     }
 
     /// Takes the oldest entry; None exactly where there is none.

@@ -1,15 +1,28 @@
-//! The two walks by which a ring of entries, which gives up only its ends, loses entries from its middle.
+//! How a ring of entries, which gives up only its ends, loses entries from its middle.
 
-ghost use Rattle.std.specs.Prelude.{◌≡◌, ◌-◌, ◌<◌, ◌≤◌, ◌++◌, length, take, drop};
+ghost use Rattle.std.specs.Prelude.{◌≡◌, ◌-◌, ◌<◌, ◌≤◌, ◌++◌, length, take, drop, slice_get};
 ghost use Rattle.circular_buffer.specs.Buffer.{buffer};
-ghost use Rattle.write_cache.specs.Cache.{entries_but};
+ghost use Rattle.write_cache.specs.Cache.{entries_but, taken_at};
 
 use crate::Entry;
 use circular_buffer::HeapCircularBuffer;
 
+// Takes entry `k` out, and lets go the older ones of its sector. The older ones of other sectors stand behind the
+// newest until it is out.
+pub(crate) fn take_out(ring: &mut HeapCircularBuffer<Entry>, k: usize) -> Option<Entry>
+    ensures after { ring.new ≡ buffer (taken_at k ring.old.items) ring.old.capacity }
+    ensures entry { result ≡ slice_get ring.old.items k }
+{
+    let sector = ring.get(k)?.sector;
+    let passed = pass_older(ring, sector, k);
+    let taken = ring.pop_front();
+    bring_back(ring, passed);
+    taken
+}
+
 // Takes the first `count` entries off the front. Those of other sectors go behind the newest, and their number is
 // the answer.
-pub(crate) fn pass_older(ring: &mut HeapCircularBuffer<Entry>, sector: u64, count: usize) -> usize
+fn pass_older(ring: &mut HeapCircularBuffer<Entry>, sector: u64, count: usize) -> usize
     requires { count ≤ length ring.old.items }
     ensures passed { let others = entries_but sector (take count ring.old.items) in
         ring.new ≡ buffer (drop count ring.old.items ++ others) ring.old.capacity }
@@ -40,7 +53,7 @@ fn pass_front(ring: &mut HeapCircularBuffer<Entry>, sector: u64) -> usize
 }
 
 // Brings the last `count` entries back to the front, in their order.
-pub(crate) fn bring_back(ring: &mut HeapCircularBuffer<Entry>, count: usize)
+fn bring_back(ring: &mut HeapCircularBuffer<Entry>, count: usize)
     requires { count ≤ length ring.old.items }
     ensures { let at = length ring.old.items - count in
         ring.new ≡ buffer (drop at ring.old.items ++ take at ring.old.items) ring.old.capacity }
@@ -51,7 +64,6 @@ pub(crate) fn bring_back(ring: &mut HeapCircularBuffer<Entry>, count: usize)
 }
 
 // The same of the last entry, where there is one.
-#[tactic(auto, using(crate::proofs::Rings::turned_one))]
 fn bring_last(ring: &mut HeapCircularBuffer<Entry>)
     ensures { let at = length ring.old.items - 1 in
         ring.new ≡ buffer (drop at ring.old.items ++ take at ring.old.items) ring.old.capacity }
