@@ -1,5 +1,5 @@
 -- What a write cache holds, and what each call does to it.
-use Rattle.std.specs.Prelude.{ℕ, Bool, not, ◌==◌, ◌+◌, List, [], ◌∷◌, ◌++◌, length, take, drop, map, filter, find, reverse, slice_get, Option, Some, None, if◌then◌else◌}
+use Rattle.std.specs.Prelude.{ℕ, ◌≡◌, Bool, not, ◌==◌, ◌+◌, List, [], ◌∷◌, ◌++◌, length, take, drop, map, filter, find, reverse, slice_get, Option, Some, None, if◌then◌else◌}
 use Rattle.write_cache.specs.declared.entry.Entry.{Entry}
 
 -- the entries in order of writing, the oldest first, and how many of them there may be (own)
@@ -50,6 +50,10 @@ values_of sector entries = reverse (map (λ entry. entry.bytes) (entries_of sect
 -- the newest entry of a sector: the first that is of it, from the newest back
 abbrev pub newest_of : ℕ → List Entry → Option Entry
 newest_of sector entries = find (is_of sector) (reverse entries)
+
+-- an entry stands at place k, the oldest at place 0
+abbrev pub IsAt : ℕ → List Entry → Entry → Type 0
+IsAt k entries entry = slice_get entries k ≡ Some entry
 
 -- what stays where this entry at place k is taken: of those before it the ones of other sectors, and all behind it;
 -- where there is none, all stay (own)

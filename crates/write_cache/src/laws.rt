@@ -1,8 +1,8 @@
 //! Laws of the list of entries: what the calls mean for the values of one sector.
 
-ghost use Rattle.std.specs.Prelude.{◌≡◌, ◌≢◌, ◌+◌, ◌∷◌, ◌++◌, [], ℕ, List, Some, take, drop, slice_get, option_map};
+ghost use Rattle.std.specs.Prelude.{◌≡◌, ◌≢◌, ◌+◌, ◌∷◌, ◌++◌, [], ℕ, List, take, drop, slice_get, option_map};
 ghost use Rattle.write_cache.specs.declared.entry.Entry.{Entry};
-ghost use Rattle.write_cache.specs.Cache.{Cached, entries_kept, newest_of, taken_at, values_of, written};
+ghost use Rattle.write_cache.specs.Cache.{Cached, IsAt, entries_kept, newest_of, taken_at, values_of, written};
 
 /// A written value is its sector's newest, and no other sector's.
 pub fn a_written_value_leads()
@@ -31,13 +31,13 @@ pub fn the_oldest_entry_is_last()
 /// Where entry k is taken, the newer values of its sector stay, and all of the others'. Its own value stood between
 /// the newer and the older ones.
 pub fn a_taken_entry_takes_the_older()
-    ensures own { (k : ℕ) (entries : List Entry) (entry : Entry) → slice_get entries k ≡ Some entry →
+    ensures own { (k : ℕ) (entries : List Entry) (entry : Entry) → IsAt k entries entry →
         values_of entry.sector (taken_at k entries)
         ≡ values_of entry.sector (drop (k + 1) entries) }
     ensures others { (k : ℕ) (entries : List Entry) (entry : Entry) (sector : ℕ) →
-        slice_get entries k ≡ Some entry → entry.sector ≢ sector →
+        IsAt k entries entry → entry.sector ≢ sector →
         values_of sector (taken_at k entries) ≡ values_of sector entries }
-    ensures between { (k : ℕ) (entries : List Entry) (entry : Entry) → slice_get entries k ≡ Some entry →
+    ensures between { (k : ℕ) (entries : List Entry) (entry : Entry) → IsAt k entries entry →
         values_of entry.sector entries ≡ values_of entry.sector (drop (k + 1) entries)
         ++ entry.bytes ∷ values_of entry.sector (take k entries) }
 {}
