@@ -1,10 +1,9 @@
 -- The sectors of a vector of bytes.
-use Rattle.std.proofs.Common.{◌≡◌, ℕ, ◌+◌, ◌*◌, ◌-◌, ◌<◌, ◌≤◌, ◌++◌, List, [], ◌∷◌, zero, suc, length, take, drop, slice_index_or, refl, ap, sym, ◌∙◌, length-take, length-drop, length-append, arith}
+use Rattle.std.proofs.Common.{◌≡◌, ℕ, ◌+◌, ◌*◌, ◌-◌, ◌<◌, ◌≤◌, ◌++◌, List, [], ◌∷◌, zero, suc, length, take, drop, slice_index_or, refl, ap, ◌∙◌, length-take, length-drop, length-append, arith}
 use Rattle.std.proofs.lemmas.List.{drop-drop, take-append-drop, take_at, drop_at}
 use Rattle.std.specs.List.{slice_range}
 use borrow.Rule.Slice.PartMut.{put_mid}
 use Rattle.plain_drive.proofs.Stores.{length-stored, stored-whole}
-use Rattle.ata_taskfile.specs.Device.{Cell}
 use Rattle.ata_taskfile.specs.declared.Kind.{Kind}
 use Rattle.ata_taskfile.specs.declared.Kind.TheVariants as kind
 use Rattle.plain_drive.specs.Step.{cells_after}

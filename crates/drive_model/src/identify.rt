@@ -4,7 +4,9 @@ ghost use Rattle.std.specs.Prelude.{◌≡◌, ◌<◌, ◌+◌, ◌*◌, length
 ghost use Rattle.plain_drive.specs.Identify.{identity, identity_word, text_word, part_at};
 
 const SERIAL_NUMBER: &[u8; 20] = b"BMC00000000000000001";
+
 const FIRMWARE_REVISION: &[u8; 8] = b"1.0     ";
+
 const MODEL_NUMBER: &[u8; 40] = b"BMCAST DRIVE                            ";
 
 /// The 256 words, of a drive of so many sectors.

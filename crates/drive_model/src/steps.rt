@@ -10,6 +10,7 @@ ghost use Rattle.plain_drive.specs.Plain.{plain, all_flushed, appended};
 ghost use Rattle.plain_drive.specs.Words.{bytes_of};
 ghost use Rattle.plain_drive.specs.Step.{step_made, good_step, bad_step, stepped, acts, acts_in, stepped_if, proceeded, proceeds, given_up, loaded, words_due, received, first_wanted, next_wanted, transferred, failed_sector, failure_shown, failure_bit, last_of};
 ghost use Rattle.drive_model.specs.Drive.{device_of};
+ghost use Rattle.drive_model.specs.Block.{block_of};
 ghost use Rattle.drive_model.specs.Durable.{all_durable};
 
 use crate::Drive;
@@ -142,9 +143,7 @@ impl Drive {
         ensures answer { result ≡ Stepped.Changed }
     {
         let words = self.words_due(order.kind, order.first + done as u64);
-        let mut file = self.file;
-        file.announce(Phase::Ready(Taken::Good(order), done, BLOCK_WORDS));
-        self.put_block(file, words, BLOCK_WORDS);
+        self.offer(order, done, words, BLOCK_WORDS);
         Stepped::Changed
     }
 
@@ -184,7 +183,7 @@ impl Drive {
     fn want_first(&mut self, order: Request)
         requires phase { self.old.file.phase ≡ Phase.Busy (Taken.Good order) 0 }
         requires takes { takes_words order.form ≡ true }
-        ensures { (memory : List ℕ) → first_wanted order (plain (device_of self.old) memory)
+        ensures after { (memory : List ℕ) → first_wanted order (plain (device_of self.old) memory)
             ≡ plain (device_of self.new) memory }
     {
         let mut file = self.file;
@@ -208,16 +207,27 @@ impl Drive {
     fn want_next(&mut self, order: Request, done: u32)
         requires phase { self.old.file.phase ≡ Phase.Busy (Taken.Good order) done }
         requires takes { takes_words order.form ≡ true }
-        ensures { (memory : List ℕ) → next_wanted order done (plain (device_of self.old) memory)
+        ensures after { (memory : List ℕ) → next_wanted order done (plain (device_of self.old) memory)
             ≡ plain (device_of self.new) memory }
     {
         if done < order.count {
-            let mut file = self.file;
-            file.announce(Phase::Ready(Taken::Good(order), done, BLOCK_WORDS));
-            self.put_block(file, self.block, 0);
+            self.offer(order, done, self.block, 0);
         } else {
             self.end(order, done);
         }
+    }
+
+    // Shows so many words of a block in Data, or wants the rest of it there.
+    fn offer(&mut self, order: Request, done: u32, block: [u16; 256], words: u16)
+        requires room { words ≤ 256 }
+        requires lawful { IsLawfulState (announced (Phase.Ready (Taken.Good order) done 256) self.old.file)
+            self.old.bus words self.old.sectors }
+        ensures { let d = device_of self.old in device_of self.new ≡ with_file
+            (announced (Phase.Ready (Taken.Good order) done 256) d.file) (record d { block = block_of block words }) }
+    {
+        let mut file = self.file;
+        file.announce(Phase::Ready(Taken::Good(order), done, BLOCK_WORDS));
+        self.put_block(file, block, words);
     }
 
     // Waits for a walk, or ends the command where all its sectors have moved.

@@ -208,55 +208,42 @@ fn a_reset_ends_the_walk_of_its_command(rt: HostRuntime) -> Result<(), Fail> {
     Ok(())
 }
 
-// The words that aren't 0, from the texts in pairs with the first character high, and from the rules of the others.
+// The texts go in pairs, the first character high.
 #[test]
 fn words_of_identify(rt: HostRuntime) -> Result<(), Fail> {
-    let words = [
-        // `BMC00000000000000001` in 10 to 19.
-        (10, 0x424d),
-        (11, 0x4330),
-        (12, 0x3030),
-        (13, 0x3030),
-        (14, 0x3030),
-        (15, 0x3030),
-        (16, 0x3030),
-        (17, 0x3030),
-        (18, 0x3030),
-        (19, 0x3031),
-        // `1.0` in 23 to 26.
-        (23, 0x312e),
-        (24, 0x3020),
-        (25, 0x2020),
-        (26, 0x2020),
-        // `BMCAST DRIVE` in 27 to 46, where spaces follow.
-        (27, 0x424d),
-        (28, 0x4341),
-        (29, 0x5354),
-        (30, 0x2044),
-        (31, 0x5249),
-        (32, 0x5645),
-        (49, 0x0300),
-        (60, 2),
-        (82, 0x0020),
-        (83, 0x7400),
-        (85, 0x0020),
-        (100, 2),
-    ];
-    let mut want = [0u16; 256];
-    for (place, word) in words {
-        want[place] = word;
-    }
-    for place in 33..=46usize {
-        want[place] = 0x2020;
-    }
     let mut drive = two_sectors(rt.alloc())?;
     drive.step(Step::Good);
     drive.write8(Reg::Status, 0xec);
     drive.step(Step::Good);
-    for (place, word) in want.iter().enumerate() {
-        assert_eq!(rt; drive.read_word(), *word, "word {place}");
+    for place in 0..256u16 {
+        assert_eq!(rt; drive.read_word(), word_wanted(place), "word {place}");
     }
     Ok(())
+}
+
+// The words of a drive of two sectors. Spaces fill the rest of `1.0` in 23 to 26 and of `BMCAST DRIVE` in 27 to 46.
+fn word_wanted(place: u16) -> u16 {
+    match place {
+        // `BMC00000000000000001` in 10 to 19.
+        10 => 0x424d,
+        11 => 0x4330,
+        12..=18 => 0x3030,
+        19 => 0x3031,
+        23 => 0x312e,
+        24 => 0x3020,
+        27 => 0x424d,
+        28 => 0x4341,
+        29 => 0x5354,
+        30 => 0x2044,
+        31 => 0x5249,
+        32 => 0x5645,
+        25 | 26 | 33..=46 => 0x2020,
+        49 => 0x0300,
+        60 | 100 => 2,
+        82 | 85 => 0x0020,
+        83 => 0x7400,
+        _ => 0,
+    }
 }
 
 #[test]

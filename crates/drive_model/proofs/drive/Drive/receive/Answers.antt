@@ -11,7 +11,7 @@ returns-then-done-eq0-clause-after c = λ m.
     let p = plain (device_of c.args.self.now) m in
     ap all_durable (received-first c.args.order c.args.done p (omega arith))
     ∙ stays (first_wanted c.args.order p) (sectors_in c.args.self.now.sectors c.args.self.now.bytes.items) refl
-    ∙ c.want_first.ensures m
+    ∙ c.want_first.ensures.after m
 
 pub returns-else-done-eq0-clause-after : goal.returns-else-done-eq0-clause-after
 returns-else-done-eq0-clause-after c = λ m.
@@ -19,4 +19,4 @@ returns-else-done-eq0-clause-after c = λ m.
     ap all_durable (received-next c.args.order c.args.done p (grind arith))
     ∙ next-durable c.args.order c.args.done (block_written _ p)
     ∙ ap (λ d. next_wanted c.args.order c.args.done (plain d m)) (sym c.write_block.ensures.written)
-    ∙ c.want_next.ensures m
+    ∙ c.want_next.ensures.after m

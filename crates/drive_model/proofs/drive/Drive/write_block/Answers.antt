@@ -15,7 +15,7 @@ returns-clause-written c =
     let whole : length c.args.self.now.block ≡ 256 = omega arith in
     let all : take c.args.self.now.words c.args.self.now.block ≡ c.args.self.now.block = rw c.requires.whole (whole_block c.args.self.now.block whole) in
     let value : c.copy_from_slice.new.self ≡ bytes_of (take c.args.self.now.words c.args.self.now.block) =
-        c.copy_from_slice.ensures.after ∙ c.bytes_of.ensures ∙ ap bytes_of (sym all) in
+    c.copy_from_slice.ensures.after ∙ c.bytes_of.ensures ∙ ap bytes_of (sym all) in
     let long : length (bytes_of (take c.args.self.now.words c.args.self.now.block)) ≡ 512 = rw all (length_bytes c.args.self.now.block whole) in
     let size : s * 512 + 512 - s * 512 ≡ 512 = omega arith in
     let enough : length bytes.items ≡ 512 * n = c.args.self.now.whole in
