@@ -4,3 +4,4 @@ pub mod Steps
 pub mod Stores
 pub mod Ends
 pub mod Blocks
+mod KeepsLawful

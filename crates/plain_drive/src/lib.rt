@@ -10,9 +10,10 @@
 ghost use Rattle.std.specs.Prelude.{◌≡◌, ◌≢◌, ◌↔◌, ◌<◌, ℕ, List, [], map, length, slice_index_or, false};
 ghost use Rattle.ata_taskfile.specs.declared.Step.{Step as StepOf};
 ghost use Rattle.ata_taskfile.specs.Device.{Cell, Device};
+ghost use Rattle.ata_taskfile.specs.Lawful.{IsLawful};
 ghost use Rattle.plain_drive.specs.Plain.{Plain, stored, settled, current, appended, all_flushed};
 ghost use Rattle.plain_drive.specs.Cut.{IsOutcome};
-ghost use Rattle.plain_drive.specs.Laws.{IsLoaded, IsAwaited, IsWritten};
+ghost use Rattle.plain_drive.specs.Laws.{IsLoaded, IsAwaited, IsWritten, HasWholeSectors};
 ghost use Rattle.plain_drive.specs.Words.{words_read, after_written};
 ghost use Rattle.plain_drive.specs.Identify.{identity};
 ghost use Rattle.plain_drive.specs.Step.{step_made, bad_step, acts};
@@ -66,4 +67,10 @@ pub fn a_step_without_effect_changes_nothing()
 /// A failing step moves no sector.
 pub fn a_bad_step_moves_no_sector()
     ensures { (p : Plain) → (bad_step p).device.cells ≡ p.device.cells }
+{}
+
+/// Every step, good or failing, leaves a lawful device lawful, where its sectors are whole.
+pub fn steps_keep_lawful()
+    ensures { (step : StepOf) (p : Plain) → HasWholeSectors p.device → IsLawful p.device
+        → IsLawful (step_made step p).device }
 {}
