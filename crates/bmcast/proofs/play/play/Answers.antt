@@ -19,11 +19,10 @@ returns-in-Err-clause-bad g c =
     c.in-Err.ensures.bad
 
 pub loop-number-preserved : goal.loop-number-preserved
-loop-number-preserved g c =
-    (
-      c.play_line.ensures.unwritten,
-      PlaysOn-more _ _ _ _ _ _ _ _ _ c.loop-number.number c.loop-number.invariant.1
+loop-number-preserved g c = (
+  c.play_line.ensures.unwritten,
+  PlaysOn-more _ _ _ _ _ _ _ _ _ c.loop-number.number c.loop-number.invariant.1
       c.in-Ok-More.ensures.counts c.in-Ok-More.ensures.files
       (λ start n next was. rw c.in-Ok-More.field-0-is at (c.in-Ok-More.ensures.progress start n next was))
       c.loop-number.auto.number (c.in-Ok-More.ensures.more c.in-Ok-More.field-0-is),
-    )
+)
