@@ -1,0 +1,4 @@
+pub mod Memory
+pub mod Descriptor
+pub mod Run
+pub mod Move
