@@ -10,6 +10,8 @@ mod descriptor;
 mod memory;
 mod moves;
 mod search;
+#[cfg(test)]
+mod tests;
 
 pub use memory::{GuestMemory, MOST_BYTES};
 pub use moves::{Moved, move_in, move_out};
