@@ -26,7 +26,7 @@ impl Descriptor {
     // The descriptor at this address.
     pub(crate) fn read(memory: &[u8], address: usize) -> Descriptor
         requires { address + DESCRIPTOR_BYTES ≤ length memory.now }
-        ensures { result ≡ descriptor_in (drop address memory.now) }
+        ensures fields { result ≡ descriptor_in (drop address memory.now) }
     {
         let bytes = &memory[address..];
         Descriptor {
@@ -38,7 +38,7 @@ impl Descriptor {
 
     // Whether it isn't bad, in a memory of so many bytes.
     pub(crate) fn is_good(&self, size: usize) -> bool
-        ensures { result ≡ is_good self.now size }
+        ensures good { result ≡ is_good self.now size }
     {
         self.base % 2 == 0
             && self.count % 2 == 0
@@ -47,14 +47,14 @@ impl Descriptor {
 
     // Whether it ends the table, with its first so many bytes.
     pub(crate) fn ends_table_at(&self, bytes: usize) -> bool
-        ensures { result ≡ (self.now.is_last && (self.now.count == bytes)) }
+        ensures last { result ≡ (self.now.is_last && (self.now.count == bytes)) }
     {
         self.is_last && self.count as usize == bytes
     }
 }
 
 fn bytes_meant(count: u16) -> u32
-    ensures { result ≡ bytes_meant count }
+    ensures count { result ≡ bytes_meant count }
 {
     match count {
         0 => 65_536,

@@ -28,7 +28,7 @@ impl GuestMemory {
     /// A memory of so many bytes, each of them 0. It fails only for want of memory; no later call takes any.
     pub fn new(alloc: Global, bytes: u32) -> Result<GuestMemory, AllocError>
         requires { bytes ≤ MOST_BYTES }
-        ensures { IfOk result (λ memory. memory ≡ replicate bytes 0) }
+        ensures zeros { IfOk result (λ memory. memory ≡ replicate bytes 0) }
     {
         Ok(GuestMemory {
             bytes: vec![in alloc; 0; bytes as usize]?,
@@ -37,7 +37,7 @@ impl GuestMemory {
 
     /// The byte at an address. Outside of the memory it is FFh (own).
     pub fn get(&self, address: u32) -> u8
-        ensures { result ≡ slice_index_or self.now address 255 }
+        ensures byte { result ≡ slice_index_or self.now address 255 }
     {
         self.bytes.get(address as usize).copied().unwrap_or(0xff)
     }

@@ -82,7 +82,7 @@ fn next_places(bus: &mut Bus, memory: &GuestMemory, places: &mut Places) -> Move
 // The bus master after such a search for the sector behind `done` others.
 fn take_on(bus: &mut Bus, done: u32, found: Found)
     requires { found ≡ Found.All false → done + 1 < 2 ^ 32 }
-    ensures { bus.new ≡ bus_after found done bus.old }
+    ensures after { bus.new ≡ bus_after found done bus.old }
 {
     match found {
         Found::All(false) => bus.walk = Some(done + 1),
@@ -95,7 +95,7 @@ fn take_on(bus: &mut Bus, done: u32, found: Found)
 }
 
 fn end(bus: &mut Bus)
-    ensures { bus.new ≡ ended bus.old }
+    ensures ended { bus.new ≡ ended bus.old }
 {
     bus.active = false;
     bus.end_walk();
@@ -103,7 +103,7 @@ fn end(bus: &mut Bus)
 
 // The answer, where so many places were found.
 fn moved_as(found: Found, places: u32) -> Moved
-    ensures { result ≡ moved_as found places }
+    ensures answer { result ≡ moved_as found places }
 {
     match found {
         Found::All(_) => Moved::Whole,
@@ -114,7 +114,7 @@ fn moved_as(found: Found, places: u32) -> Moved
 
 fn scatter(memory: &mut GuestMemory, places: &[u32], sector: &[u8; 512])
     requires { length places.now ≤ 512 }
-    ensures { memory.new ≡ scattered places.now sector.now memory.old }
+    ensures moved { memory.new ≡ scattered places.now sector.now memory.old }
 {
     for (i, place) in places.iter().enumerate() {
         memory.set(*place, sector[i]);
@@ -123,7 +123,7 @@ fn scatter(memory: &mut GuestMemory, places: &[u32], sector: &[u8; 512])
 
 fn gather(memory: &GuestMemory, places: &[u32], sector: &mut [u8; 512])
     requires { length places.now ≡ 512 }
-    ensures { sector.new ≡ map (byte_at memory.now) places.now }
+    ensures bytes { sector.new ≡ map (byte_at memory.now) places.now }
 {
     for (i, byte) in sector.iter_mut().enumerate() {
         *byte = memory.get(places[i]);

@@ -61,7 +61,7 @@ fn add_piece(descriptor: &Descriptor, start: usize, end: usize, places: &mut Pla
     requires within { descriptor.now.base + descriptor.now.count ≤ 16777216 }
     requires few { length places.old.items ≤ 512 }
     requires room { end ≡ start + (512 - length places.old.items) }
-    ensures { places.new.items ≡ with_piece descriptor.now start places.old.items }
+    ensures piece { places.new.items ≡ with_piece descriptor.now start places.old.items }
 {
     let count = descriptor.count as usize;
     let first = descriptor.base + start.min(count) as u32;
@@ -72,7 +72,7 @@ fn add_piece(descriptor: &Descriptor, start: usize, end: usize, places: &mut Pla
 fn push_range(first: u32, behind: u32, places: &mut Places)
     requires order { first ≤ behind }
     requires room { length places.old.items + (behind - first) ≤ 512 }
-    ensures { places.new.items ≡ places.old.items ++ range_with_len first (behind - first) }
+    ensures range { places.new.items ≡ places.old.items ++ range_with_len first (behind - first) }
 {
     for place in first..behind {
         places.push(place);

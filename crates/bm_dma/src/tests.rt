@@ -29,8 +29,10 @@ fn walked(bus: Bus, error: bool) -> Bus {
 
 // Writes bytes from an address on.
 fn put(memory: &mut GuestMemory, address: u32, bytes: &[u8]) {
-    for (i, byte) in bytes.iter().enumerate() {
-        memory.set(address.wrapping_add(i as u32), *byte);
+    let mut at = address;
+    for byte in bytes {
+        memory.set(at, *byte);
+        at = at.wrapping_add(1);
     }
 }
 
