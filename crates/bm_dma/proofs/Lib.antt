@@ -1,3 +1,4 @@
 pub mod Lists
 pub mod Scattered
 pub mod Searching
+pub mod Named

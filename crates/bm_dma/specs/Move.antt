@@ -13,10 +13,11 @@ abbrev pub places_in : Option ℕ → ℕ → List ℕ → List ℕ
 places_in None pointer memory = []
 places_in (Some moved) pointer memory = sector_places moved (run_of pointer memory)
 
+-- the places of the sector that the bus master moves next
 abbrev pub places_next : Bus → List ℕ → List ℕ
 places_next b memory = places_in b.walk b.pointer memory
 
--- the answer to what was found with so many places
+-- the answer to what was found with so many places (own)
 abbrev pub moved_as : Found → ℕ → Moved
 moved_as (All last) places = Whole
 moved_as Ended places = Short places
@@ -28,6 +29,7 @@ outcome_in None pointer memory = Waiting
 outcome_in (Some moved) pointer memory =
     moved_as (found_in moved (run_of pointer memory)) (length (sector_places moved (run_of pointer memory)))
 
+-- the answer to moving the bus master's next sector
 abbrev pub outcome : Bus → List ℕ → Moved
 outcome b memory = outcome_in b.walk b.pointer memory
 
@@ -42,6 +44,7 @@ bus_after (All true) moved b = ended b
 bus_after Ended moved b = ended b
 bus_after Bad moved b = record b { active = false; error = true; walk = None }
 
+-- the bus master after moving the next sector of such a walk; without one nothing changes (own)
 abbrev pub bus_in : Option ℕ → List ℕ → Bus → Bus
 bus_in None memory b = b
 bus_in (Some moved) memory b = bus_after (found_in moved (run_of b.pointer memory)) moved b

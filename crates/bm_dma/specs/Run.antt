@@ -10,7 +10,7 @@ pub record Run : Type 0 where
   pub places : List ℕ
   pub ended : Bool
 
--- a bad descriptor
+-- a bad descriptor: the run ends before it
 abbrev pub bad_run : Run
 bad_run = record { places = []; ended = false }
 
