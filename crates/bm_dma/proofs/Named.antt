@@ -1,5 +1,5 @@
 -- Which places a table names, and how many a short move has.
-use Rattle.std.proofs.Common.{◌≡◌, ℕ, zero, suc, ◌+◌, ◌*◌, ◌/◌, ◌-◌, ◌<◌, ◌≤◌, ◌==◌, Bool, true, false, Option, Some, None, List, [], All, length, drop, arith, refl, length-take}
+use Rattle.std.proofs.Common.{ap, ◌≡◌, ℕ, zero, suc, ◌+◌, ◌*◌, ◌/◌, ◌-◌, ◌<◌, ◌≤◌, ◌==◌, Bool, true, false, Option, Some, None, List, [], All, length, drop, arith, refl, length-take}
 use Rattle.std.proofs.lemmas.Bool.Decides.{nat_tests}
 use Rattle.std.proofs.lemmas.List.Elements.{All-nil, All-append, All-from_get_or}
 use Rattle.std.proofs.lemmas.List.FromFn.{length-range_with_len, get_or-range_with_len}
@@ -7,7 +7,7 @@ use Rattle.ata_taskfile.specs.declared.bus_master.Bus.{Bus}
 use Rattle.bm_dma.specs.declared.descriptor.Descriptor.{Descriptor}
 use Rattle.bm_dma.specs.declared.moves.Moved.TheVariants.{Short}
 use Rattle.bm_dma.specs.Descriptor.{descriptor_in, is_good, places_of}
-use Rattle.bm_dma.specs.Run.{Run, run_with, run_from, run_of, sector_places, is_tables_end, found_as}
+use Rattle.bm_dma.specs.Run.{Run, bad_run, run_with, run_from, run_of, sector_places, is_tables_end, found_as}
 use Rattle.bm_dma.specs.Move.{moved_as, outcome_in, outcome}
 use Rattle.bm_dma.proofs.Searching.{from_ne}
 
@@ -36,6 +36,17 @@ inside_from (suc n) at memory =
 -- every place of a table is in memory
 pub inside_run : (pointer : ℕ) (memory : List ℕ) → All (λ place. place < length memory) (run_of pointer memory).places
 inside_run pointer memory = inside_from ((length memory - pointer) / 8) pointer memory
+
+-- a run is its first descriptor with the run behind it
+pub run_first : (pointer : ℕ) (memory : List ℕ) → pointer + 8 ≤ length memory
+    → run_of pointer memory ≡ run_with (descriptor_in (drop pointer memory)) (length memory) (run_of (pointer + 8) memory)
+run_first pointer memory inside =
+    let one_more : (length memory - pointer) / 8 ≡ suc ((length memory - (pointer + 8)) / 8) = omega arith in
+    ap (λ n. run_from n pointer memory) one_more
+
+-- behind the end of memory there is none
+pub run_past : (pointer : ℕ) (memory : List ℕ) → length memory < pointer + 8 → run_of pointer memory ≡ bad_run
+run_past pointer memory past = let none : (length memory - pointer) / 8 ≡ 0 = omega arith in ap (λ n. run_from n pointer memory) none
 
 short_count : (full last ended : Bool) (k n : ℕ) → (full ≡ false → k < 512) → moved_as (found_as full last ended) k ≡ Short n → n < 512
 short_count true last ended k n few e = cc

@@ -1,10 +1,20 @@
 //! Laws of descriptor tables.
 
-ghost use Rattle.std.specs.Prelude.{◌≡◌, ℕ, ◌<◌, List, All, length};
+ghost use Rattle.std.specs.Prelude.{◌≡◌, ℕ, ◌+◌, ◌<◌, ◌≤◌, List, All, length, drop};
 ghost use Rattle.ata_taskfile.specs.declared.bus_master.Bus.{Bus};
 ghost use Rattle.bm_dma.specs.declared.moves.Moved.TheVariants.{Short};
-ghost use Rattle.bm_dma.specs.Run.{run_of};
+ghost use Rattle.bm_dma.specs.Descriptor.{descriptor_in};
+ghost use Rattle.bm_dma.specs.Run.{bad_run, run_with, run_of};
 ghost use Rattle.bm_dma.specs.Move.{outcome};
+
+/// A run is its first descriptor with the run behind it, and none where the descriptor isn't all in memory.
+pub fn runs_begin_with_a_descriptor()
+    ensures first { (pointer : ℕ) (memory : List ℕ) → pointer + 8 ≤ length memory →
+        run_of pointer memory ≡ run_with (descriptor_in (drop pointer memory)) (length memory)
+        (run_of (pointer + 8) memory) }
+    ensures past { (pointer : ℕ) (memory : List ℕ) → length memory < pointer + 8 →
+        run_of pointer memory ≡ bad_run }
+{}
 
 /// Every place that a table names is in memory.
 pub fn places_are_in_memory()

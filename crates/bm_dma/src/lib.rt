@@ -14,7 +14,9 @@ mod search;
 #[cfg(test)]
 mod tests;
 
-pub use laws::{places_are_in_memory, short_moves_are_below_a_sector};
+pub use laws::{
+    places_are_in_memory, runs_begin_with_a_descriptor, short_moves_are_below_a_sector,
+};
 pub use memory::{GuestMemory, MOST_BYTES};
 pub use moves::{Moved, move_in, move_out};
 pub use std::alloc::AllocError as NoMemory;
