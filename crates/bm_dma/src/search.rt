@@ -2,8 +2,7 @@
 
 ghost use Rattle.std.specs.Prelude.{◌≡◌, ◌+◌, ◌-◌, ◌≤◌, ◌<◌, ◌^◌, ◌++◌, [], false, length};
 ghost use Rattle.std.specs.List.{range_with_len};
-ghost use Rattle.arrayvec.specs.ArrayVec.{array_vec_len};
-ghost use Rattle.bm_dma.specs.Descriptor.{places_of, with_piece};
+ghost use Rattle.bm_dma.specs.Descriptor.{with_piece};
 ghost use Rattle.bm_dma.specs.Run.{run_of, sector_places, found_in};
 
 use crate::descriptor::{DESCRIPTOR_BYTES, Descriptor};
