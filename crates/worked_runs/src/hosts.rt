@@ -115,7 +115,7 @@ fn named(alloc: Global, files: &Files<'_>) -> Result<Vec<(Role, Vec<u8>)>, NoMem
     Ok(named)
 }
 
-fn owned(alloc: Global, words: &[&str], more: &[&str]) -> Result<Vec<String>, NoMemory> {
+pub fn owned(alloc: Global, words: &[&str], more: &[&str]) -> Result<Vec<String>, NoMemory> {
     let mut all = Vec::new(alloc);
     for word in words {
         all.push(String::from_str(alloc, word)?)?;

@@ -1,8 +1,8 @@
-//! Whole runs of `bmcast` over files in memory: what it writes, and how it ends.
+//! Whole runs of `bmcast`, nearly all over files in memory: what it writes, and how it ends.
 //!
 //! It has tests alone. Start with `hosts`, the files and words that the runs have in common; then `done` for runs
-//! that are done, `refusals` for files, words and lines that are refused, and `faults` for hosts that fail. The
-//! values are by hand from `docs/formats.md` and `docs/drive.md`.
+//! that are done, `refusals` for files, words and lines that are refused, `faults` for hosts that fail, and `files` for
+//! real files. The values are by hand from `docs/formats.md` and `docs/drive.md`.
 
 #![tactic(auto)]
 
@@ -10,6 +10,8 @@
 mod done;
 #[cfg(test)]
 mod faults;
+#[cfg(test)]
+mod files;
 #[cfg(test)]
 mod hosts;
 #[cfg(test)]
