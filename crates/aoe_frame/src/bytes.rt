@@ -43,6 +43,15 @@ impl<const N: usize> Bytes<N> {
         self.items.try_push(byte).is_ok()
     }
 
+    pub(crate) fn of(bytes: &[u8]) -> Self
+        requires few { length bytes.now ≤ N }
+        ensures bytes { result ≡ bytes.now }
+    {
+        let mut items = ArrayVec::new();
+        let _fits = items.try_extend_from_slice(bytes);
+        Bytes { items }
+    }
+
     /// The bytes in order.
     pub fn as_slice(&self) -> &[u8]
         ensures bytes { result.now ≡ self.now }

@@ -13,8 +13,10 @@ pub const MOST_BYTES: usize = 1060;
 /// list of its bytes.
 #[derive(Clone, Debug, Drop, PartialEq, Eq)]
 pub struct Frame {
-    bytes: ArrayVec<u8, MOST_BYTES>,
+    bytes: FrameBytes,
 }
+
+pub(crate) type FrameBytes = ArrayVec<u8, MOST_BYTES>;
 
 impl Model for Frame {
     ghost use Rattle.std.specs.Prelude.{ℕ, List, ◌≤◌, length};
@@ -36,6 +38,13 @@ impl Frame {
     {
         let bytes = ArrayVec::try_from(bytes).ok()?;
         Some(Frame { bytes })
+    }
+
+    pub(crate) fn of(bytes: FrameBytes) -> Frame
+        ensures frame { result ≡ bytes.items }
+    {
+        let _few = bytes.len();
+        Frame { bytes }
     }
 
     /// The bytes in order.

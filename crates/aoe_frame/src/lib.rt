@@ -1,11 +1,27 @@
 //! Frames of ATA over Ethernet (AoE r11): their bytes, and the messages that the bytes say.
 //!
-//! `Frame` is what goes over the network; `Bytes` is a list of bytes with a bound.
+//! Start with `message` for what a frame says, then `parse` and `write`, which go from its bytes to that and back.
+//! `specs/Layout.antt` has the one layout of the bytes that both are about, in wire order, and `specs/Reading.antt` what
+//! `parse` answers, fault by fault. `docs/network.md` has the same as tables.
 
 #![tactic(auto)]
 
 mod bytes;
 mod frame;
+mod laws;
+mod message;
+mod numbers;
+mod reading;
+#[cfg(test)]
+mod tests;
+mod writing;
 
 pub use bytes::Bytes;
 pub use frame::{Frame, MOST_BYTES};
+pub use laws::{a_frame_has_one_reading, a_written_message_is_read, bytes_say_one_message};
+pub use message::{
+    ATA, Aoe, Argument, AtaPart, CONFIG, ConfigPart, ETHER_TYPE, EXTENDED, FAILED, FrameFault,
+    Header, MOST_BODY, REPLY, VERSION, WRITE,
+};
+pub use reading::parse;
+pub use writing::write;

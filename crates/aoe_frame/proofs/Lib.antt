@@ -1,0 +1,3 @@
+mod Layouts
+mod Readings
+mod Written

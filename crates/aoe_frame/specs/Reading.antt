@@ -1,0 +1,47 @@
+-- What reading a frame answers.
+use Rattle.std.specs.Prelude.{ℕ, zero, suc, ◌≡◌, ◌≢◌, ◌<◌, ◌≤◌, List, length, take, drop, Result, Ok, Err}
+use Rattle.byteorder.specs.Endian.{big_bytes}
+use Rattle.aoe_frame.specs.declared.message.TheConstants.{ETHER_TYPE, VERSION}
+use Rattle.aoe_frame.specs.declared.message.Header.{Header}
+use Rattle.aoe_frame.specs.declared.message.Aoe.{Aoe}
+use Rattle.aoe_frame.specs.declared.message.FrameFault.{FrameFault}
+use Rattle.aoe_frame.specs.declared.message.FrameFault.TheVariants.{Short, NotAoe, Version}
+use Rattle.aoe_frame.specs.Layout.{HasHeader, Says}
+
+-- the type behind the two addresses is that of ATA over Ethernet (AoE r11, common header)
+abbrev pub IsAoe : List ℕ → Type 0
+IsAoe bytes = take 2 (drop 12 bytes) ≡ big_bytes 2 ETHER_TYPE
+
+-- how many bytes a frame of a command needs: the argument of 0 has 12 before its body, that of 1 has 8
+abbrev pub bytes_needed : ℕ → ℕ
+bytes_needed zero = 36
+bytes_needed (suc zero) = 32
+bytes_needed (suc (suc n)) = 24
+
+-- a frame is too short: for its type, for its header, or for the argument of its command
+pub data IsShort (bytes : List ℕ) : Type 0 where
+  BeforeType : length bytes < 14 → IsShort bytes
+  InHeader : IsAoe bytes → length bytes < 24 → IsShort bytes
+  InArgument : (h : Header) → HasHeader bytes h → h.version ≡ VERSION → length bytes < bytes_needed h.command → IsShort bytes
+
+-- a frame is of another type, whatever follows
+pub record IsOfOtherType (bytes : List ℕ) : Type 0 where
+  pub long : 14 ≤ length bytes
+  pub other : ¬ IsAoe bytes
+
+-- a frame says a message of the version that is spoken here
+pub record IsMessage (bytes : List ℕ) (m : Aoe) : Type 0 where
+  pub says : Says bytes m
+  pub version : m.header.version ≡ VERSION
+
+-- a frame has this header, of another version
+pub record IsOfOtherVersion (bytes : List ℕ) (h : Header) : Type 0 where
+  pub header : HasHeader bytes h
+  pub other : h.version ≢ VERSION
+
+-- what reading a frame answers, a line for each answer; the faults exclude each other
+abbrev pub Reads : List ℕ → Result Aoe FrameFault → Type 0
+Reads bytes (Ok m) = IsMessage bytes m
+Reads bytes (Err Short) = IsShort bytes
+Reads bytes (Err NotAoe) = IsOfOtherType bytes
+Reads bytes (Err (Version h)) = IsOfOtherVersion bytes h
