@@ -1,3 +1,3 @@
 mod Layouts
-mod Readings
+pub mod Readings
 mod Written

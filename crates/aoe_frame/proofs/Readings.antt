@@ -7,7 +7,7 @@ use Rattle.aoe_frame.specs.declared.message.Aoe.{Aoe}
 use Rattle.aoe_frame.specs.declared.message.FrameFault.{FrameFault}
 use Rattle.aoe_frame.specs.declared.message.FrameFault.TheVariants.{Short, NotAoe, Version}
 use Rattle.aoe_frame.specs.Layout.{HasHeader, HasArgument, ArgumentFits, IsOf, Says}
-use Rattle.aoe_frame.specs.Reading.{Reads, IsMessage, IsOfOtherType, IsShort, bytes_needed}
+use Rattle.aoe_frame.specs.Reading.{IsReading, IsMessage, IsOfOtherType, IsShort, bytes_needed}
 use Rattle.aoe_frame.specs.Reading.IsShort.{BeforeType, InHeader, InArgument}
 use Rattle.aoe_frame.proofs.Layouts.{one_header, one_message, header_long, header_type, argument_long}
 
@@ -30,7 +30,7 @@ message_long bytes m says =
     omega (arith, length-drop 24 bytes)
 
 -- a message is no other answer's
-not_fault : (bytes : List ℕ) (m : Aoe) (fault : FrameFault) → IsMessage bytes m → Reads bytes (Err fault) → ⊥
+not_fault : (bytes : List ℕ) (m : Aoe) (fault : FrameFault) → IsMessage bytes m → IsReading bytes (Err fault) → ⊥
 not_fault bytes m Short is cut = not_short bytes m.header is.says.header (λ spoken. message_long bytes m is.says) cut
 not_fault bytes m NotAoe is foreign = foreign.other (header_type bytes m.header is.says.header)
 not_fault bytes m (Version h) is strange =
@@ -42,7 +42,7 @@ not_foreign bytes foreign (BeforeType below) = let long = foreign.long in omega 
 not_foreign bytes foreign (InHeader aoe below) = foreign.other aoe
 not_foreign bytes foreign (InArgument h has version below) = foreign.other (header_type bytes h has)
 
-one_fault : (bytes : List ℕ) (a b : FrameFault) → Reads bytes (Err a) → Reads bytes (Err b) → a ≡ b
+one_fault : (bytes : List ℕ) (a b : FrameFault) → IsReading bytes (Err a) → IsReading bytes (Err b) → a ≡ b
 one_fault bytes Short Short reads_a reads_b = refl
 one_fault bytes Short NotAoe reads_a reads_b = absurd (not_foreign bytes reads_b reads_a)
 one_fault bytes Short (Version h) reads_a reads_b = absurd (not_short bytes h reads_b.header (λ spoken. absurd (reads_b.other spoken)) reads_a)
@@ -54,15 +54,15 @@ one_fault bytes (Version h) NotAoe reads_a reads_b = absurd (reads_b.other (head
 one_fault bytes (Version h) (Version k) reads_a reads_b = ap Version (one_header bytes h k reads_a.header reads_b.header)
 
 -- a frame has one reading
-pub one_reading : (bytes : List ℕ) (a b : Result Aoe FrameFault) → Reads bytes a → Reads bytes b → a ≡ b
+pub one_reading : (bytes : List ℕ) (a b : Result Aoe FrameFault) → IsReading bytes a → IsReading bytes b → a ≡ b
 one_reading bytes (Ok m) (Ok n) reads_a reads_b = ap Ok (one_message bytes m n reads_a.says reads_b.says)
 one_reading bytes (Ok m) (Err fault) reads_a reads_b = absurd (not_fault bytes m fault reads_a reads_b)
 one_reading bytes (Err fault) (Ok m) reads_a reads_b = absurd (not_fault bytes m fault reads_b reads_a)
 one_reading bytes (Err f) (Err g) reads_a reads_b = ap Err (one_fault bytes f g reads_a reads_b)
 
 -- reading answers this exactly where this is what it has to answer
-pub reads_exactly : (bytes : List ℕ) (answer a : Result Aoe FrameFault) → Reads bytes answer → (answer ≡ a → Reads bytes a) × (Reads bytes a → answer ≡ a)
-reads_exactly bytes answer a reads = (λ is. subst (Reads bytes) is reads, one_reading bytes answer a reads)
+pub reads_exactly : (bytes : List ℕ) (answer a : Result Aoe FrameFault) → IsReading bytes answer → (answer ≡ a → IsReading bytes a) × (IsReading bytes a → answer ≡ a)
+reads_exactly bytes answer a reads = (λ is. subst (IsReading bytes) is reads, one_reading bytes answer a reads)
 
 -- a header and an argument are a message
 pub read_whole : (bytes : List ℕ) (h : Header) (a : Argument) → HasHeader bytes h → h.version ≡ VERSION

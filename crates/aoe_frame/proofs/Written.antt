@@ -6,7 +6,7 @@ use Rattle.aoe_frame.specs.declared.message.Argument.{Argument}
 use Rattle.aoe_frame.specs.declared.message.Argument.TheVariants.{Ata, Config, Other}
 use Rattle.aoe_frame.specs.declared.message.Aoe.{Aoe}
 use Rattle.aoe_frame.specs.Layout.{Fits, HasArgument, IsOf, Says, argument_written, frame_of, header_bytes}
-use Rattle.aoe_frame.specs.Reading.{Reads}
+use Rattle.aoe_frame.specs.Reading.{IsReading}
 use Rattle.aoe_frame.proofs.Layouts.{header_long, length-header_bytes}
 
 argument_says : (a : Argument) → HasArgument (argument_written a) a
@@ -28,7 +28,7 @@ written_says m fits of =
     }
 
 -- and is read so
-pub written_reads : (m : Aoe) → Fits m → IsOf m.header.command m.argument → m.header.version ≡ VERSION → Reads (frame_of m) (Ok m)
+pub written_reads : (m : Aoe) → Fits m → IsOf m.header.command m.argument → m.header.version ≡ VERSION → IsReading (frame_of m) (Ok m)
 written_reads m fits of version = record { says = written_says m fits of; version = version }
 
 shortest_argument : (bytes : List ℕ) (a : Argument) → HasArgument bytes a → length (argument_written a) ≤ length bytes

@@ -39,9 +39,9 @@ pub record IsOfOtherVersion (bytes : List ℕ) (h : Header) : Type 0 where
   pub header : HasHeader bytes h
   pub other : h.version ≢ VERSION
 
--- what reading a frame answers, a line for each answer; the faults exclude each other
-abbrev pub Reads : List ℕ → Result Aoe FrameFault → Type 0
-Reads bytes (Ok m) = IsMessage bytes m
-Reads bytes (Err Short) = IsShort bytes
-Reads bytes (Err NotAoe) = IsOfOtherType bytes
-Reads bytes (Err (Version h)) = IsOfOtherVersion bytes h
+-- the reading of a frame, a line for each answer; they exclude each other
+abbrev pub IsReading : List ℕ → Result Aoe FrameFault → Type 0
+IsReading bytes (Ok m) = IsMessage bytes m
+IsReading bytes (Err Short) = IsShort bytes
+IsReading bytes (Err NotAoe) = IsOfOtherType bytes
+IsReading bytes (Err (Version h)) = IsOfOtherVersion bytes h

@@ -4,7 +4,7 @@ ghost use Rattle.std.specs.Prelude.{◌≡◌, ℕ, List, Result, Ok};
 ghost use Rattle.aoe_frame.specs.declared.message.Aoe.{Aoe as AoeOf};
 ghost use Rattle.aoe_frame.specs.declared.message.FrameFault.{FrameFault as FaultOf};
 ghost use Rattle.aoe_frame.specs.Layout.{Fits, IsOf, Says, frame_of};
-ghost use Rattle.aoe_frame.specs.Reading.{Reads};
+ghost use Rattle.aoe_frame.specs.Reading.{IsReading};
 
 use crate::VERSION;
 
@@ -17,12 +17,12 @@ pub fn bytes_say_one_message()
 #[tactic(auto, using(crate::proofs::Readings::one_reading))]
 pub fn a_frame_has_one_reading()
     ensures once { (bytes : List ℕ) (a b : Result AoeOf FaultOf) →
-        Reads bytes a → Reads bytes b → a ≡ b }
+        IsReading bytes a → IsReading bytes b → a ≡ b }
 {}
 
 /// A message of the version that is spoken here, whose numbers fit their places, is read back as it was written.
 #[tactic(auto, using(crate::proofs::Written::written_reads))]
 pub fn a_written_message_is_read()
     ensures back { (m : AoeOf) → Fits m → IsOf m.header.command m.argument → m.header.version ≡ VERSION
-        → Reads (frame_of m) (Ok m) }
+        → IsReading (frame_of m) (Ok m) }
 {}

@@ -4,7 +4,7 @@ ghost use Rattle.std.specs.Prelude.{◌≡◌, ◌≤◌, ◌<◌, ◌+◌, ◌�
 ghost use Rattle.aoe_frame.specs.declared.message.Header.{Header as HeaderOf};
 ghost use Rattle.aoe_frame.specs.declared.message.Aoe.{Aoe as AoeOf};
 ghost use Rattle.aoe_frame.specs.Layout.{HasHeader, HasArgument, ArgumentFits, AtaFits, ConfigFits, IsOf, ata_bytes, config_bytes};
-ghost use Rattle.aoe_frame.specs.Reading.{Reads, IsAoe, IsMessage, IsOfOtherType, IsOfOtherVersion, IsShort, bytes_needed};
+ghost use Rattle.aoe_frame.specs.Reading.{IsReading, IsAoe, IsMessage, IsOfOtherType, IsOfOtherVersion, IsShort, bytes_needed};
 
 use crate::numbers::{u16_at, u32_at, u48_at};
 use crate::{
@@ -18,7 +18,7 @@ use crate::{
 /// version than `VERSION`, or ends in the argument of its command. Bytes behind an argument are the body of an ATA
 /// argument, and mean nothing otherwise.
 pub fn parse(frame: &Frame) -> Result<Aoe, FrameFault>
-    ensures reads { Reads frame.now result }
+    ensures reads { IsReading frame.now result }
     ensures message { (m : AoeOf) → (result ≡ Ok m) ↔ IsMessage frame.now m }
     ensures short { (result ≡ Err FrameFault.Short) ↔ IsShort frame.now }
     ensures not_aoe { (result ≡ Err FrameFault.NotAoe) ↔ IsOfOtherType frame.now }
@@ -30,7 +30,7 @@ pub fn parse(frame: &Frame) -> Result<Aoe, FrameFault>
 
 fn read(bytes: &[u8]) -> Result<Aoe, FrameFault>
     requires few { length bytes.now ≤ MOST_BYTES }
-    ensures reads { Reads bytes.now result }
+    ensures reads { IsReading bytes.now result }
 {
     let header = read_header(bytes)?;
     if header.version != VERSION {
@@ -44,7 +44,7 @@ fn read(bytes: &[u8]) -> Result<Aoe, FrameFault>
 
 fn read_header(bytes: &[u8]) -> Result<Header, FrameFault>
     ensures header { MatchResult result (HasHeader bytes.now)
-        (λ fault. Reads bytes.now (Err fault)) }
+        (λ fault. IsReading bytes.now (Err fault)) }
 {
     if bytes.len() < 14 {
         return Err(FrameFault::Short);

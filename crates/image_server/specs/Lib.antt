@@ -1,0 +1,4 @@
+pub mod Identity
+pub mod Request
+pub mod Reply
+pub mod Serving

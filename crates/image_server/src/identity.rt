@@ -1,0 +1,36 @@
+//! The answer to IDENTIFY DEVICE.
+
+ghost use Rattle.std.specs.Prelude.{◌≡◌, ◌≤◌, ◌+◌, ◌++◌, [], length, replicate, codes};
+ghost use Rattle.std.specs.Int.{bytes_low_first};
+ghost use Rattle.image_server.specs.Identity.{identity, in_words};
+
+use crate::body::{Body, put, put_text};
+
+const SERIAL_NUMBER: &[u8] = b"BMC00000000000000002";
+
+const FIRMWARE_REVISION: &[u8] = b"1.0     ";
+
+const MODEL_NUMBER: &[u8] = b"BMCAST IMAGE                            ";
+
+/// The 512 bytes that say what the server is, the low byte of each word first (ATA/ATAPI-6, IDENTIFY DEVICE).
+pub(crate) fn identity(sectors: u64) -> Body
+    ensures bytes { result ≡ identity sectors }
+{
+    let count = sectors.to_le_bytes();
+    let mut body = Body::new();
+    put(&[0; 20], &mut body);
+    put_text(SERIAL_NUMBER, &mut body);
+    put(&[0; 6], &mut body);
+    put_text(FIRMWARE_REVISION, &mut body);
+    put_text(MODEL_NUMBER, &mut body);
+    put(&[0; 4], &mut body);
+    put(&0x0200u16.to_le_bytes(), &mut body);
+    put(&[0; 20], &mut body);
+    put(&count[..4], &mut body);
+    put(&[0; 42], &mut body);
+    put(&0x4400u16.to_le_bytes(), &mut body);
+    put(&[0; 32], &mut body);
+    put(&count, &mut body);
+    put(&[0; 304], &mut body);
+    body
+}

@@ -1,0 +1,95 @@
+//! The parts of a reply that need no sector.
+
+ghost use Rattle.std.specs.Prelude.{◌≡◌, ◌<◌};
+ghost use Rattle.image_server.specs.Reply.{accepted, answered, configuration, refusal, reply_header};
+
+use crate::body::Body;
+use crate::request::{SHELF, SLOT};
+use aoe_frame::{Aoe, Argument, AtaPart, ConfigPart, FAILED, Header, REPLY, VERSION};
+
+/// Why a command isn't done: there is none of this byte (AoE r11, error codes).
+pub(crate) const UNKNOWN_COMMAND: u8 = 1;
+
+/// Its argument isn't served (AoE r11, error codes).
+pub(crate) const BAD_ARGUMENT: u8 = 2;
+
+/// It has another version (AoE r11, error codes).
+pub(crate) const OTHER_VERSION: u8 = 5;
+
+/// Status after an ATA command that was done (ATA/ATAPI-6, Status register: DRDY; own: 10h beside it).
+pub(crate) const GOOD_STATUS: u8 = 0x50;
+
+/// Status after one that failed: ERR too (ATA/ATAPI-6, Status register).
+pub(crate) const FAILED_STATUS: u8 = 0x51;
+
+/// Error where none is told.
+pub(crate) const NO_ERROR: u8 = 0;
+
+/// Error: the sectors aren't all there (ATA/ATAPI-6, Error register: IDNF).
+pub(crate) const ADDRESS_ERROR: u8 = 0x10;
+
+/// Error: the command isn't served (ATA/ATAPI-6, Error register: ABRT).
+pub(crate) const COMMAND_ERROR: u8 = 0x04;
+
+/// The server's address (own).
+const ADDRESS: [u8; 6] = [2, 0, 0, 0, 0, 2];
+
+/// What the server has room for: 64 requests of two sectors each, and no string (own).
+pub(crate) const CONFIGURATION: ConfigPart = ConfigPart {
+    buffers: 64,
+    firmware: 1,
+    count: 2,
+    version: VERSION,
+    code: 0,
+    length: 0,
+};
+
+// A reply with an argument.
+pub(crate) fn accepted(request: &Header, argument: Argument) -> Aoe
+    ensures reply { result ≡ accepted request.now argument }
+{
+    Aoe {
+        header: reply_header(request, REPLY, 0),
+        argument,
+    }
+}
+
+// A reply that says why there is none.
+pub(crate) fn refusal(request: &Header, error: u8) -> Aoe
+    ensures reply { result ≡ refusal request.now error }
+{
+    Aoe {
+        header: reply_header(request, REPLY | FAILED, error),
+        argument: Argument::Other,
+    }
+}
+
+fn reply_header(request: &Header, flags: u8, error: u8) -> Header
+    ensures header { result ≡ reply_header request.now flags error }
+{
+    Header {
+        dest: request.source,
+        source: ADDRESS,
+        version: VERSION,
+        flags,
+        error,
+        major: SHELF,
+        minor: SLOT,
+        command: request.command,
+        tag: request.tag,
+    }
+}
+
+// The registers of the request with Error, Status and a body.
+pub(crate) fn answered(part: &AtaPart, error: u8, status: u8, body: Body) -> AtaPart
+    ensures part { result ≡ answered part.now error status body }
+{
+    AtaPart {
+        flags: part.flags,
+        feature: error,
+        count: part.count,
+        command: status,
+        lba: part.lba,
+        body,
+    }
+}

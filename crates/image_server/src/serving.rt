@@ -1,0 +1,167 @@
+//! A frame served.
+
+ghost use Rattle.std.specs.Prelude.{if◌then◌else◌, ◌==◌, ℕ, List, Ok, Err, ◌^◌, ◌≡◌, ◌≤◌, ◌<◌, ◌+◌, ◌*◌, length, option_map, IfOk, IfErr, OnErr, IfSome};
+ghost use Rattle.bm_host.specs.Outside.{Counted, IfTold, Reads, SameBytes, bytes_at, looked_at};
+ghost use Rattle.aoe_frame.specs.declared.message.Header.{Header as HeaderOf};
+ghost use Rattle.aoe_frame.specs.Layout.{ArgumentFits, AtaFits, Fits, HeaderFits, IsOf, IsWritable, frame_of};
+ghost use Rattle.image_server.specs.Request.{asked_in};
+ghost use Rattle.image_server.specs.Reply.{ata_answer, accepted, configuration, if_heard, refusal, reply, reply_to, sectors_in, sectors_sent};
+ghost use Rattle.image_server.specs.Serving.{HasSectors, IsAnswer, LooksAtMost, LooksAtSent, OverImage};
+
+use crate::body::{Body, put};
+use crate::identity::identity;
+use crate::reply::{
+    ADDRESS_ERROR, BAD_ARGUMENT, COMMAND_ERROR, CONFIGURATION, FAILED_STATUS, GOOD_STATUS,
+    NO_ERROR, OTHER_VERSION, UNKNOWN_COMMAND, accepted, answered, refusal,
+};
+use crate::request::{Asked, asked_in, is_heard};
+use aoe_frame::{Aoe, Argument, AtaPart, ConfigPart, Frame, FrameFault, Header, parse, write};
+use bm_host::{Failed, Host, Role};
+
+/// The server's reply to a frame, over the first so many sectors of Image; None is silence (docs/network.md).
+pub fn serve<H: Host>(host: &mut H, sectors: u64, frame: &Frame) -> Result<Option<Frame>, Failed>
+    requires image { IfTold ((H.outside host.old).told Role.Image)
+        (λ image. 512 * sectors ≤ length image) }
+    ensures answer { IfOk result (λ answer. OverImage sectors ((H.outside host.old).told Role.Image)
+        (λ image. IsAnswer sectors image frame.now answer)) }
+
+    // It fails only where a sector was to be read, and no other call of the host is made.
+    ensures cause { Counted Reads Role.Image (H.outside host.old) (H.outside host.new) result }
+    ensures needed { OnErr result (HasSectors sectors frame.now) }
+    ensures bytes { SameBytes (H.outside host.old) (H.outside host.new) }
+    ensures looked { LooksAtSent sectors frame.now (H.outside host.old) (H.outside host.new) }
+{
+    match parse(frame) {
+        Ok(message) => serve_message(host, sectors, &message),
+        Err(fault) => Ok(refuse(&fault)),
+    }
+}
+
+fn refuse(fault: &FrameFault) -> Option<Frame>
+    requires fits { (h : HeaderOf) → fault.now ≡ FrameFault.Version h → HeaderFits h }
+    ensures answer { (sectors : ℕ) (image : List ℕ) →
+        result ≡ option_map frame_of (reply sectors image (Err fault.now)) }
+{
+    match fault {
+        FrameFault::Short | FrameFault::NotAoe => None,
+        FrameFault::Version(header) => refuse_version(header),
+    }
+}
+
+fn refuse_version(header: &Header) -> Option<Frame>
+    requires fits { HeaderFits header.now }
+    ensures answer { result ≡ option_map frame_of (if_heard header.now (refusal header.now OTHER_VERSION)) }
+{
+    if !is_heard(header) {
+        return None;
+    }
+    Some(write(&refusal(header, OTHER_VERSION)))
+}
+
+#[tactic(auto, using(crate::proofs::Images::over_any, crate::proofs::Images::over_map))]
+fn serve_message<H: Host>(
+    host: &mut H,
+    sectors: u64,
+    message: &Aoe,
+) -> Result<Option<Frame>, Failed>
+    requires fits { Fits message.now }
+    requires kind { IsOf message.now.header.command message.now.argument }
+    requires image { IfTold ((H.outside host.old).told Role.Image)
+        (λ image. 512 * sectors ≤ length image) }
+    ensures answer { IfOk result (λ answer. OverImage sectors ((H.outside host.old).told Role.Image)
+        (λ image. answer ≡ option_map frame_of (reply sectors image (Ok message.now)))) }
+    ensures cause { Counted Reads Role.Image (H.outside host.old) (H.outside host.new) result }
+    ensures needed { OnErr result (0 < sectors_sent sectors (Ok message.now)) }
+    ensures bytes { SameBytes (H.outside host.old) (H.outside host.new) }
+    ensures looked { LooksAtMost (sectors_sent sectors (Ok message.now))
+        (H.outside host.old) (H.outside host.new) }
+{
+    if !is_heard(&message.header) {
+        return Ok(None);
+    }
+    let reply = reply_to(host, sectors, message)?;
+    Ok(Some(write(&reply)))
+}
+
+#[tactic(auto, using(crate::proofs::Images::over_any, crate::proofs::Images::over_map))]
+fn reply_to<H: Host>(host: &mut H, sectors: u64, message: &Aoe) -> Result<Aoe, Failed>
+    requires fits { Fits message.now }
+    requires kind { IsOf message.now.header.command message.now.argument }
+    requires image { IfTold ((H.outside host.old).told Role.Image)
+        (λ image. 512 * sectors ≤ length image) }
+    ensures reply { IfOk result (λ reply. OverImage sectors ((H.outside host.old).told Role.Image)
+        (λ image. reply ≡ reply_to sectors image message.now.header message.now.argument)) }
+    ensures fits { IfOk result Fits }
+    ensures kind { IfOk result (λ reply. IsWritable reply.header.command reply.argument) }
+    ensures cause { Counted Reads Role.Image (H.outside host.old) (H.outside host.new) result }
+    ensures needed { OnErr result (0 < sectors_in sectors message.now.argument) }
+    ensures bytes { SameBytes (H.outside host.old) (H.outside host.new) }
+    ensures looked { LooksAtMost (sectors_in sectors message.now.argument)
+        (H.outside host.old) (H.outside host.new) }
+{
+    match &message.argument {
+        Argument::Ata(part) => {
+            let part = ata_answer(host, sectors, part)?;
+            Ok(accepted(&message.header, Argument::Ata(part)))
+        }
+        Argument::Config(part) => Ok(config_reply(&message.header, part)),
+        Argument::Other => Ok(refusal(&message.header, UNKNOWN_COMMAND)),
+    }
+}
+
+fn config_reply(header: &Header, part: &ConfigPart) -> Aoe
+    ensures reply { result ≡ (if part.now.code == 0
+        then accepted header.now (Argument.Config configuration) else refusal header.now BAD_ARGUMENT) }
+{
+    if part.code == 0 {
+        accepted(header, Argument::Config(CONFIGURATION))
+    } else {
+        refusal(header, BAD_ARGUMENT)
+    }
+}
+
+#[tactic(auto, using(crate::proofs::Served::answer_plain, crate::proofs::Served::answer_sectors))]
+fn ata_answer<H: Host>(host: &mut H, sectors: u64, part: &AtaPart) -> Result<AtaPart, Failed>
+    requires fits { AtaFits part.now }
+    requires image { IfTold ((H.outside host.old).told Role.Image)
+        (λ image. 512 * sectors ≤ length image) }
+    ensures answer { IfOk result (λ answer. OverImage sectors ((H.outside host.old).told Role.Image)
+        (λ image. answer ≡ ata_answer (asked_in sectors part.now) sectors image part.now)) }
+    ensures fits { IfOk result AtaFits }
+    ensures cause { Counted Reads Role.Image (H.outside host.old) (H.outside host.new) result }
+    ensures needed { OnErr result (0 < sectors_in sectors (Argument.Ata part.now)) }
+    ensures bytes { SameBytes (H.outside host.old) (H.outside host.new) }
+    ensures looked { LooksAtMost (sectors_in sectors (Argument.Ata part.now))
+        (H.outside host.old) (H.outside host.new) }
+{
+    match asked_in(part, sectors) {
+        Asked::Sectors => {
+            let body = read_sectors(host, part.lba, part.count)?;
+            Ok(answered(part, NO_ERROR, GOOD_STATUS, body))
+        }
+        Asked::PastTheEnd => Ok(answered(part, ADDRESS_ERROR, FAILED_STATUS, Body::new())),
+        Asked::Identity => Ok(answered(part, NO_ERROR, GOOD_STATUS, identity(sectors))),
+        Asked::Refused => Ok(answered(part, COMMAND_ERROR, FAILED_STATUS, Body::new())),
+    }
+}
+
+// Reads so many sectors of the image.
+fn read_sectors<H: Host>(host: &mut H, first: u64, count: u8) -> Result<Body, Failed>
+    requires few { count ≤ 2 }
+    requires address { first < 2 ^ 48 }
+    requires image { IfTold ((H.outside host.old).told Role.Image)
+        (λ image. 512 * (first + count) ≤ length image) }
+    ensures body { IfOk result (λ body. IfTold ((H.outside host.old).told Role.Image)
+        (λ image. body ≡ bytes_at (512 * first) (512 * count) image)) }
+    ensures count { IfOk result (λ body. length body ≡ 512 * count) }
+    ensures cause { Counted Reads Role.Image (H.outside host.old) (H.outside host.new) result }
+    ensures bytes { SameBytes (H.outside host.old) (H.outside host.new) }
+    ensures looked { LooksAtMost count (H.outside host.old) (H.outside host.new) }
+{
+    let mut room = [0; 1024];
+    let sectors = &mut room[..512 * count as usize];
+    host.read_at(Role::Image, 512 * first, sectors)?;
+    let mut body = Body::new();
+    put(sectors, &mut body);
+    Ok(body)
+}
