@@ -12,5 +12,7 @@ mod identity;
 mod reply;
 mod request;
 mod serving;
+#[cfg(test)]
+mod tests;
 
 pub use serving::serve;

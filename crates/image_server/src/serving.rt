@@ -25,7 +25,7 @@ pub fn serve<H: Host>(host: &mut H, sectors: u64, frame: &Frame) -> Result<Optio
     ensures answer { IfOk result (λ answer. OverImage sectors ((H.outside host.old).told Role.Image)
         (λ image. IsAnswer sectors image frame.now answer)) }
 
-    // It fails only where a sector was to be read, and no other call of the host is made.
+    // It fails only where sectors go into the reply.
     ensures cause { Counted Reads Role.Image (H.outside host.old) (H.outside host.new) result }
     ensures needed { OnErr result (HasSectors sectors frame.now) }
     ensures bytes { SameBytes (H.outside host.old) (H.outside host.new) }
