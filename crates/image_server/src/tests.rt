@@ -16,11 +16,11 @@ fn bytes_of(alloc: Global, text: &str) -> Result<Vec<u8>, Fail> {
     Ok(hex::decode(alloc, digits.as_str())?)
 }
 
-// So many times 512 bytes, each time one more.
+// So many sectors of the image, from the first on.
 fn push_sectors(bytes: &mut Vec<u8>, first: u8, count: u8) -> Result<(), Fail> {
     for sector in 0..count {
         for _i in 0..512 {
-            bytes.push(first.wrapping_add(sector))?;
+            bytes.push(0x10u8.wrapping_add(first).wrapping_add(sector))?;
         }
     }
     Ok(())
@@ -33,13 +33,18 @@ fn served(
     failing: &[u32],
 ) -> Result<Result<Option<Frame>, Failed>, Fail> {
     let mut image = Vec::new(alloc);
-    push_sectors(&mut image, 0x10, 8)?;
+    push_sectors(&mut image, 0, 8)?;
     let mut files = Vec::new(alloc);
     files.push((Role::Image, image))?;
     let mut host = MemoryHost::new(alloc, files, failing.to_vec(alloc)?, 0)?;
-    let sectors = host.length(Role::Image)? / 512;
     let frame = Frame::from_slice(&bytes_of(alloc, text)?).ok_or("long")?;
-    Ok(serve(&mut host, sectors, &frame))
+    Ok(served_whole(&mut host, &frame))
+}
+
+// The same by a host, over all sectors of its image.
+fn served_whole<H: Host>(host: &mut H, frame: &Frame) -> Result<Option<Frame>, Failed> {
+    let bytes = host.length(Role::Image)?;
+    serve(host, bytes / 512, frame)
 }
 
 // A request, its reply, and the first and the number of the sectors that come behind.
@@ -125,7 +130,7 @@ fn each_row_of_the_table(rt: HostRuntime) -> Result<(), Fail> {
     ];
     for (request, front, (first, count)) in cases {
         let mut bytes = bytes_of(rt.alloc(), front)?;
-        push_sectors(&mut bytes, 0x10 + first, count)?;
+        push_sectors(&mut bytes, first, count)?;
         let reply = served(rt.alloc(), request, &[])?;
         assert_eq!(rt; reply, Ok(Frame::from_slice(&bytes)), "{request}");
     }
