@@ -1,5 +1,6 @@
 pub mod Blocks
 pub mod Reading
+pub mod Machines
 pub mod EventLaws
 pub mod Reporting
 pub mod Lines

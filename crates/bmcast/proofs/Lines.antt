@@ -5,9 +5,7 @@ use Rattle.std.proofs.lemmas.Result.{IfOk-weaker}
 use Rattle.bm_host.specs.Outside.{IfTold}
 use Rattle.bmcast.specs.declared.stop.Stop.{Stop}
 use Rattle.bmcast.proofs.Told.{IfTold-weaker}
-use Rattle.ata_taskfile.specs.declared.Step.TheVariants as step
 use Rattle.schedule_text.specs.declared.Event.{Event}
-use Rattle.schedule_text.specs.declared.Event.TheVariants as event
 use Rattle.schedule_text.specs.Line.{Says, IsInRange}
 use Rattle.schedule_text.specs.Schedule.{HasRead}
 use Rattle.schedule_text.proofs.Lines.{some_bytes, cut_off}
@@ -16,14 +14,7 @@ use Rattle.bmcast.specs.Streams.{Fetches}
 
 -- an event that a line says has numbers in range
 pub said_in_range : (line : List ℕ) (e : Event) → Says line e → IsInRange e
-said_in_range line (event.Read8 r) says = says.0
-said_in_range line (event.Write8 r v) says = says.0
-said_in_range line (event.ReadWords n) says = (says.0, says.1)
-said_in_range line event.Line says = tt
-said_in_range line (event.Drive step.Good) says = refl
-said_in_range line (event.Drive step.Bad) says = absurd says
-said_in_range line event.Remark says = tt
-said_in_range line event.End says = tt
+said_in_range line e says = says.0
 
 -- one more line, with its line feed
 HasRead-line : (text line old new : List ℕ) (e : Event) (events : List Event) → Fetches fetched.Line line old new → Says line e → HasRead text old events → HasRead text new (e ∷ events)

@@ -1,6 +1,6 @@
 -- The answer is the one that words, lengths and schedule owe, where nothing failed.
 use Rattle.std.proofs.Common.{◌≡◌, ℕ, List, length, Option, Some, None, inl, inr, refl, sym, ap, subst, ◌∙◌, arith}
-use Rattle.std.specs.Option.{option_map}
+use Rattle.std.specs.Option.{IsSomeAnd, option_map}
 use Rattle.std.proofs.lemmas.Option.{none-some, same_Some}
 use Rattle.bm_host.specs.declared.Role.TheVariants.{Image, Disk, Schedule}
 use Rattle.bm_host.specs.Outside.{Outside, IfTold, Reads, Writes}
@@ -14,8 +14,8 @@ use Rattle.fill_bitmap.specs.declared.lengths.Unsuitable.{Unsuitable}
 use Rattle.fill_bitmap.specs.Lengths.{refusal_of}
 use Rattle.schedule_text.specs.BadLine.{FailsAt}
 use Rattle.bmcast.specs.Lengths.{CanRun, IfLengths, IsNotYet, IsUnsuitable, why_of}
-use Rattle.bmcast.specs.Owed.{Tells, Offers, IsOwed, AnswersWhatIsOwed}
-use Rattle.bmcast.specs.Run.{IsBadLine, IsDone}
+use Rattle.bmcast.specs.Owed.{Offers, IsOwed, AnswersWhatIsOwed}
+use Rattle.bmcast.specs.Run.{RunIsBad, RunIsDone}
 use Rattle.bmcast.specs.Status.{Chooses, HasItsCause, HasItsReason, OnBadLineStatus, OnDone, status_of}
 use Rattle.bmcast.specs.declared.Why.{Why}
 use Rattle.bmcast.specs.declared.stop.Stop.{Stop}
@@ -24,7 +24,7 @@ use Rattle.bmcast.specs.declared.Status.{Status}
 use Rattle.bmcast.specs.declared.Status.TheVariants as status
 
 -- a fact of what is told, and one of a role that is told
-both_told : {R : Type 0} (o : Option (List ℕ)) (P Q : List ℕ → Type 0) → ((x : List ℕ) → P x → Q x → R) → IfTold o P → Tells o Q → R
+both_told : {R : Type 0} (o : Option (List ℕ)) (P Q : List ℕ → Type 0) → ((x : List ℕ) → P x → Q x → R) → IfTold o P → IsSomeAnd o Q → R
 both_told None P Q joined p q = absurd q
 both_told (Some x) P Q joined p q = joined x p q
 
@@ -90,8 +90,8 @@ not_yet_owed words old status.NoMemory reason is = absurd is
 
 -- words and lengths are good, and so is what the schedule owes
 runs_owed : (words : List (List ℕ)) (old : Outside) (answer owed : Status) → Chooses words old CanRun
-    → ((n : ℕ) (kind : LineFault) → Tells (old.told Schedule) (λ text. (events : List Event) × FailsAt text events n kind) → answer ≡ status.BadLine n kind)
-    → (Tells (old.told Schedule) (λ text. (events : List Event) × IsSchedule text events) → answer ≡ status.Done)
+    → ((n : ℕ) (kind : LineFault) → IsSomeAnd (old.told Schedule) (λ text. (events : List Event) × FailsAt text events n kind) → answer ≡ status.BadLine n kind)
+    → (IsSomeAnd (old.told Schedule) (λ text. (events : List Event) × IsSchedule text events) → answer ≡ status.Done)
     → IsOwed owed words old → answer ≡ owed
 runs_owed words old answer status.Usage can bad done is = absurd (is can.choice can.says)
 runs_owed words old answer (status.Unsuitable why) can bad done is = absurd (both_lengths words old _ _ (λ block image disk good refused. unsuitable_can_run why block image disk refused good) can is)
@@ -103,21 +103,21 @@ runs_owed words old answer (status.WriteFault role) can bad done is = absurd is
 runs_owed words old answer status.NoMemory can bad done is = absurd is
 
 -- the first bad line of a schedule that has one is the one that was found
-bad_line_found : (words : List (List ℕ)) (old new : Outside) (n : ℕ) (kind : LineFault) (owed : Status) → Chooses words old CanRun → IsBadLine old new n kind → IsOwed owed words old → status.BadLine n kind ≡ owed
+bad_line_found : (words : List (List ℕ)) (old new : Outside) (n : ℕ) (kind : LineFault) (owed : Status) → Chooses words old CanRun → RunIsBad words old new n kind → IsOwed owed words old → status.BadLine n kind ≡ owed
 bad_line_found words old new n kind owed can bad is = runs_owed words old (status.BadLine n kind) owed can
-    (λ m other there. both_told (old.told Schedule) _ _ (λ text found fails. let same = bad_line_once text _ _ n m kind other found fails.1 in ap (λ k. status.BadLine k kind) same.0 ∙ ap (λ f. status.BadLine m f) same.1) bad.schedule there)
-    (λ there. absurd (both_told (old.told Schedule) _ _ (λ text found whole. no_bad_line text whole.0 _ n kind whole.1 found) bad.schedule there))
+    (λ m other there. both_told (old.told Schedule) _ _ (λ text found fails. let same = bad_line_once text _ _ n m kind other found fails.1 in ap (λ k. status.BadLine k kind) same.0 ∙ ap (λ f. status.BadLine m f) same.1) bad.holds.schedule there)
+    (λ there. absurd (both_told (old.told Schedule) _ _ (λ text found whole. no_bad_line text whole.0 _ n kind whole.1 found) bad.holds.schedule there))
     is
 
 -- a whole schedule is done
-whole_done : (words : List (List ℕ)) (old new : Outside) (owed : Status) → Chooses words old CanRun → IsDone old new → IsOwed owed words old → status.Done ≡ owed
+whole_done : (words : List (List ℕ)) (old new : Outside) (owed : Status) → Chooses words old CanRun → RunIsDone words old new → IsOwed owed words old → status.Done ≡ owed
 whole_done words old new owed can was is = runs_owed words old status.Done owed can
-    (λ n kind there. absurd (both_told (old.told Schedule) _ _ (λ text whole fails. no_bad_line text _ fails.0 n kind whole fails.1) was.schedule there))
+    (λ n kind there. absurd (both_told (old.told Schedule) _ _ (λ text whole fails. no_bad_line text _ fails.0 n kind whole fails.1) was.holds.schedule there))
     (λ there. refl)
     is
 
 -- where no count rose the answer is the one that is owed, or want of memory
-pub owed_answer : (words : List (List ℕ)) (old new : Outside) (answer : Status) → HasItsReason answer words old → OnBadLineStatus answer (IsBadLine old new) → OnDone answer (IsDone old new)
+pub owed_answer : (words : List (List ℕ)) (old new : Outside) (answer : Status) → HasItsReason answer words old → OnBadLineStatus answer (RunIsBad words old new) → OnDone answer (RunIsDone words old new)
     → HasItsCause answer old new → AnswersWhatIsOwed answer words old new
 owed_answer words old new status.Usage reason bad done cause owed is none = inl (usage_owed words old owed reason is)
 owed_answer words old new (status.Unsuitable why) reason bad done cause owed is none = inl (unsuitable_owed words old why owed reason is)
@@ -129,7 +129,7 @@ owed_answer words old new (status.WriteFault role) reason bad done cause owed is
 owed_answer words old new status.NoMemory reason bad done cause owed is none = inr refl
 
 -- the same of a run that stopped
-pub owed_stop : (words : List (List ℕ)) (old new : Outside) (why : Stop) → HasItsReason (status_of why) words old → OnBadLineStatus (status_of why) (IsBadLine old new)
+pub owed_stop : (words : List (List ℕ)) (old new : Outside) (why : Stop) → HasItsReason (status_of why) words old → OnBadLineStatus (status_of why) (RunIsBad words old new)
     → HasItsCause (status_of why) old new → AnswersWhatIsOwed (status_of why) words old new
 owed_stop words old new stop.Usage reason bad cause = owed_answer words old new status.Usage reason bad tt cause
 owed_stop words old new (stop.Unsuitable why) reason bad cause = owed_answer words old new (status.Unsuitable why) reason bad tt cause

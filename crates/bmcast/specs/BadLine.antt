@@ -4,15 +4,15 @@ use Rattle.schedule_text.specs.declared.LineFault.{LineFault}
 use Rattle.schedule_text.specs.BadLine.{FailsAt}
 use Rattle.bm_host.specs.declared.Role.TheVariants.{Schedule}
 use Rattle.bm_host.specs.Outside.{Outside, IfTold}
-use Rattle.plain_drive.specs.Plain.{Plain}
+use Rattle.plain_drive.specs.Physical.{Physical}
 use Rattle.plain_run.specs.Entry.{Entry, events_of, history_text}
-use Rattle.plain_run.specs.Run.{IsDirectRun}
+use Rattle.plain_run.specs.Run.{IsDriveRun}
 use Rattle.bmcast.specs.declared.streams.Streams.{Streams}
 use Rattle.bmcast.specs.Streams.{Said}
 
 -- the events before the first bad line were read, done and reported
-pub record HasFailed (start : Plain) (s : Streams) (o : Outside) (now : Plain) (number : ℕ) (kind : LineFault) : Type 0 where
+pub record HasFailed (start : Physical) (s : Streams) (o : Outside) (now : Physical) (number : ℕ) (kind : LineFault) : Type 0 where
   pub entries : List Entry
-  pub run : IsDirectRun start entries now
+  pub run : IsDriveRun start entries now
   pub fails : IfTold (o.told Schedule) (λ text. FailsAt text (events_of entries) number kind)
   pub said : Said s o (history_text entries)

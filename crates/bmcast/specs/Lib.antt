@@ -1,3 +1,4 @@
+pub mod Machine
 pub mod Stop
 pub mod Streams
 pub mod Played

@@ -1,5 +1,6 @@
 -- The answer that words, lengths and schedule owe, where the host tells them and nothing fails.
-use Rattle.std.specs.Prelude.{ℕ, ◌≡◌, ◌⊎◌, List, length, Option, Some, None}
+use Rattle.std.specs.Prelude.{ℕ, ◌≡◌, ◌⊎◌, List, length}
+use Rattle.std.specs.Option.{IsSomeAnd}
 use Rattle.bm_host.specs.declared.Role.TheVariants.{Image, Disk, Schedule}
 use Rattle.bm_host.specs.Outside.{Outside, NoCountRose}
 use Rattle.run_words.specs.Options.{Choice, Says}
@@ -10,16 +11,11 @@ use Rattle.bmcast.specs.Lengths.{CanRun, IsNotYet, IsUnsuitable}
 use Rattle.bmcast.specs.declared.Status.{Status}
 use Rattle.bmcast.specs.declared.Status.TheVariants as status
 
--- a role is told, and its bytes are so
-abbrev pub Tells : Option (List ℕ) → (List ℕ → Type 0) → Type 0
-Tells None P = ⊥
-Tells (Some bytes) P = P bytes
-
 -- the words choose a run, image and disk are told, and the block with their lengths is so
 pub record Offers (words : List (List ℕ)) (o : Outside) (P : ℕ → ℕ → ℕ → Type 0) : Type 0 where
   pub choice : Choice
   pub says : Says words choice
-  pub lengths : Tells (o.told Image) (λ image. Tells (o.told Disk) (λ disk. P choice.sizes.block (length image) (length disk)))
+  pub lengths : IsSomeAnd (o.told Image) (λ image. IsSomeAnd (o.told Disk) (λ disk. P choice.sizes.block (length image) (length disk)))
 
 -- the answer that is owed: the first refusal of words, lengths and schedule, or else Done; a fault and want of
 -- memory never are (own)
@@ -28,9 +24,9 @@ IsOwed status.Usage words o = (choice : Choice) → ¬ Says words choice
 IsOwed (status.Unsuitable reason) words o = Offers words o (IsUnsuitable reason)
 IsOwed status.NotYet words o = Offers words o IsNotYet
 IsOwed (status.BadLine number fault) words o = Offers words o CanRun
-    × Tells (o.told Schedule) (λ text. (events : List Event) × FailsAt text events number fault)
+    × IsSomeAnd (o.told Schedule) (λ text. (events : List Event) × FailsAt text events number fault)
 IsOwed status.Done words o = Offers words o CanRun
-    × Tells (o.told Schedule) (λ text. (events : List Event) × IsSchedule text events)
+    × IsSomeAnd (o.told Schedule) (λ text. (events : List Event) × IsSchedule text events)
 IsOwed (status.ReadFault role) words o = ⊥
 IsOwed (status.WriteFault role) words o = ⊥
 IsOwed status.NoMemory words o = ⊥

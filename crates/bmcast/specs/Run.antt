@@ -1,14 +1,17 @@
 -- A whole run, and what is promised of it.
-use Rattle.std.specs.Prelude.{ℕ, ◌≡◌, ◌*◌, ◌/◌, List, [], length}
+use Rattle.std.specs.Prelude.{ℕ, ◌≡◌, ◌*◌, ◌/◌, false, List, [], length, replicate, slice_index_or}
 use Rattle.bm_host.specs.declared.Role.TheVariants.{Disk, Schedule, Report, Out}
 use Rattle.bm_host.specs.Outside.{Outside, IfTold}
-use Rattle.plain_drive.specs.Plain.{Plain, sectors_in}
+use Rattle.run_words.specs.Options.{Choice, Says}
+use Rattle.plain_drive.specs.Plain.{sectors_in}
 use Rattle.plain_drive.specs.Cut.{IsOutcome, drive_at_power_on}
+use Rattle.plain_drive.specs.Physical.{Physical, fresh, physical_at_power_on}
 use Rattle.schedule_text.specs.Schedule.{IsSchedule}
-use Rattle.plain_run.specs.Entry.{Entry, events_of, history_text, report_text}
-use Rattle.plain_run.specs.Run.{IsDirectRun}
 use Rattle.schedule_text.specs.declared.LineFault.{LineFault}
 use Rattle.schedule_text.specs.BadLine.{FailsAt}
+use Rattle.plain_run.specs.Entry.{Entry, events_of, history_text, report_text}
+use Rattle.plain_run.specs.Run.{Drives, IsDriveRun, IsDirectRun, drives}
+use Rattle.plain_run.specs.Written.{is_named}
 
 -- no event is read yet: nothing of the schedule is taken, and report and out are empty
 pub record IsReady (o : Outside) : Type 0 where
@@ -17,54 +20,78 @@ pub record IsReady (o : Outside) : Type 0 where
   pub out : IfTold (o.told Out) (λ bytes. bytes ≡ [])
 
 -- the schedule was played to its end, from one state of the drive to another, and the report is its text
-pub record IsReported (old new : Outside) (start now : Plain) : Type 0 where
+pub record IsReported (old new : Outside) (start now : Physical) : Type 0 where
   pub entries : List Entry
-  pub run : IsDirectRun start entries now
+  pub run : IsDriveRun start entries now
   pub schedule : IfTold (old.told Schedule) (λ text. IsSchedule text (events_of entries))
   pub report : IfTold (new.told Report) (λ text. text ≡ report_text entries)
 
 -- the schedule was played up to its first bad line, and the report is the text of the events before it
-pub record IsStopped (old new : Outside) (start now : Plain) (number : ℕ) (kind : LineFault) : Type 0 where
+pub record IsStopped (old new : Outside) (start now : Physical) (number : ℕ) (kind : LineFault) : Type 0 where
   pub entries : List Entry
-  pub run : IsDirectRun start entries now
+  pub run : IsDriveRun start entries now
   pub schedule : IfTold (old.told Schedule) (λ text. FailsAt text (events_of entries) number kind)
   pub report : IfTold (new.told Report) (λ text. text ≡ history_text entries)
 
--- a drive at power-on over a disk's bytes; the guest has no memory yet
-abbrev pub drive_over : List ℕ → Plain
-drive_over disk = drive_at_power_on (sectors_in (length disk / 512) disk) (length disk / 512) []
+-- the sectors of a disk's bytes
+abbrev pub sectors_of_disk : List ℕ → List (List ℕ)
+sectors_of_disk disk = sectors_in (length disk / 512) disk
 
--- the run is done, from the outside before it to that after it:
-pub record IsDone (old new : Outside) : Type 0 where
-  -- there is a history, one entry for each event, and the drive's states at its start and its end
+-- a drive at power-on over these sectors, all durable, with a guest's memory of so many zeros
+abbrev pub drive_over : ℕ → List (List ℕ) → Physical
+drive_over memory sectors = physical_at_power_on (fresh 64 sectors) (length sectors) (replicate memory 0)
+
+-- the same beside the plain drive for which it stands
+abbrev pub drives_over : ℕ → List (List ℕ) → Drives
+drives_over memory sectors = drives (drive_at_power_on sectors (length sectors) (replicate memory 0)) (drive_over memory sectors)
+
+-- the run is done, with a guest's memory of so many bytes, from the outside before it to that after it:
+pub record IsDone (memory : ℕ) (old new : Outside) : Type 0 where
+  -- there are the disk's sectors, a history with one entry for each event, and at its end a plain drive and the physical one that stands for it
+  pub sectors : List (List ℕ)
   pub entries : List Entry
-  pub start : Plain
-  pub end : Plain
-  -- the drive began with the disk's sectors
-  pub began : IfTold (old.told Disk) (λ disk. start ≡ drive_over disk)
+  pub end : Drives
+  pub read : IfTold (old.told Disk) (λ disk. sectors ≡ sectors_of_disk disk)
   -- the schedule was read to its line `end` and the end of input, and these are its events
   pub schedule : IfTold (old.told Schedule) (λ text. IsSchedule text (events_of entries))
   -- the report is the text of the history
   pub report : IfTold (new.told Report) (λ text. text ≡ report_text entries)
-  -- the answers, plan lines and command lines are those of the drive, event by event
-  pub run : IsDirectRun start entries end
-  -- out has the drive's sectors, and is what a power cut may leave
-  pub whole : IfTold (new.told Out) (λ out. length out ≡ 512 * end.device.sectors)
-  pub outcome : IfTold (new.told Out) (λ out. IsOutcome end.device.cells (sectors_in end.device.sectors out))
-  -- nothing writes to the drive yet, so out is the disk
-  pub unwritten : IfTold (old.told Disk) (λ disk. IfTold (new.told Out) (λ out. out ≡ disk))
+  -- both drives began with the sectors, and event by event the answers and plan lines are those of the plain drive, the physical
+  -- one makes exactly the event's access, step, destage or cut and takes the commands of the command lines, and after a cut the
+  -- plain drive goes on with the physical one's durable sectors
+  pub run : IsDirectRun (drives_over memory sectors) entries end
+  -- out has the physical drive's durable sectors, which are what a power cut may leave of the plain one
+  pub out : IfTold (new.told Out) (λ out. sectors_of_disk out ≡ end.physical.kept.durable)
+  pub whole : IfTold (new.told Out) (λ out. length out ≡ 512 * length sectors)
+  pub outcome : IsOutcome end.plain.device.cells end.physical.kept.durable
+  -- a sector that no command line of a write names is the disk's
+  pub unnamed : (s : ℕ) → is_named s entries ≡ false
+      → slice_index_or end.physical.kept.durable s [] ≡ slice_index_or sectors s []
 
 -- the run ended at a bad line: its number and its kind are those of the schedule's first, and
-pub record IsBadLine (old new : Outside) (number : ℕ) (kind : LineFault) : Type 0 where
-  -- there is a history of the events before it, and the drive's states at its start and its end
+pub record IsBadLine (memory : ℕ) (old new : Outside) (number : ℕ) (kind : LineFault) : Type 0 where
+  -- there are the disk's sectors, a history of the events before it, and at its end a plain drive and the physical one that stands for it
+  pub sectors : List (List ℕ)
   pub entries : List Entry
-  pub start : Plain
-  pub end : Plain
-  -- the drive began with the disk's sectors
-  pub began : IfTold (old.told Disk) (λ disk. start ≡ drive_over disk)
+  pub end : Drives
+  pub read : IfTold (old.told Disk) (λ disk. sectors ≡ sectors_of_disk disk)
   -- the lines before it are those of these events, and it is the first that isn't one, for this fault
   pub schedule : IfTold (old.told Schedule) (λ text. FailsAt text (events_of entries) number kind)
   -- the report is the text of the history, without an end
   pub report : IfTold (new.told Report) (λ text. text ≡ history_text entries)
   -- all these events were done
-  pub run : IsDirectRun start entries end
+  pub run : IsDirectRun (drives_over memory sectors) entries end
+
+-- the words choose a run, of which this holds
+pub record Chosen (words : List (List ℕ)) (P : Choice → Type 0) : Type 0 where
+  pub choice : Choice
+  pub says : Says words choice
+  pub holds : P choice
+
+-- the run that the words choose is done
+abbrev pub RunIsDone : List (List ℕ) → Outside → Outside → Type 0
+RunIsDone words old new = Chosen words (λ choice. IsDone choice.sizes.memory old new)
+
+-- the run that the words choose ended at a bad line
+abbrev pub RunIsBad : List (List ℕ) → Outside → Outside → ℕ → LineFault → Type 0
+RunIsBad words old new number kind = Chosen words (λ choice. IsBadLine choice.sizes.memory old new number kind)

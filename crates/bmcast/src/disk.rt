@@ -1,84 +1,94 @@
-//! The disk's bytes: read before the run, and written after it.
+//! The disk's sectors: read before the run, and written to Out after it.
 
-ghost use Rattle.std.specs.Prelude.{◌≡◌, ◌+◌, ◌*◌, ◌%◌, ◌/◌, ◌≤◌, ◌<◌, ◌++◌, ℕ, List, [], take, length, IfErr, IfOk, OnOk, vec_len, false};
+ghost use Rattle.std.specs.Prelude.{◌≡◌, ◌+◌, ◌*◌, ◌%◌, ◌/◌, ◌≤◌, ◌<◌, ◌^◌, ◌++◌, ℕ, List, All, [], take, length, IfErr, IfOk, OnOk, slice_index_or};
+ghost use Rattle.std.specs.List.{concat};
 ghost use Rattle.bm_host.specs.Outside.{IfTold, SameBytes};
 ghost use Rattle.bm_host.specs.declared.Role.TheVariants.{Disk, Out};
-ghost use Rattle.ata_taskfile.specs.Device.{powered_on};
-ghost use Rattle.plain_drive.specs.Plain.{stored, sectors_in, durable_bytes, durable_value};
-ghost use Rattle.plain_drive.specs.Step.{has_block};
-ghost use Rattle.plain_drive.specs.Cut.{IsOutcome};
-ghost use Rattle.drive_model.specs.Drive.{device_of};
+ghost use Rattle.plain_drive.specs.Plain.{sectors_in};
+ghost use Rattle.bmcast.specs.Machine.{list_of, physical};
+ghost use Rattle.bmcast.specs.Run.{drive_over, sectors_of_disk};
 ghost use Rattle.bmcast.specs.Stop.{Ended, IsFault, IsLateFault};
 ghost use Rattle.bmcast.specs.Streams.{Waits, KeepsFilesBut};
 
+use crate::machine::Machine;
 use crate::stop::Stop;
 use arrayvec::ArrayVec;
+use bm_dma::{GuestMemory, MOST_BYTES};
 use bm_host::{Host, Role};
 use drive_model::Drive;
+use drive_store::{MemoryStore, Store};
 use std::alloc::Global;
 
-/// The bytes of the disk that are read or written in one call.
+/// The bytes of the drive that are written in one call.
 const PIECE: usize = 65_536;
 
-/// Makes a drive of the disk's sectors, which is `size` bytes long.
-pub fn load<H: Host>(alloc: Global, host: &mut H, size: u64) -> Result<Drive, Stop>
+/// Makes a drive of the disk's sectors, which is `size` bytes long, with a guest's memory of so many zeros.
+pub fn load<H: Host>(alloc: Global, host: &mut H, size: u64, memory: u32) -> Result<Machine, Stop>
     requires whole { size % 512 ≡ 0 }
+    requires memory { memory ≤ MOST_BYTES }
     requires told { IfTold ((H.outside host.old).told Disk) (λ bytes. length bytes ≡ size) }
     ensures late { IfErr result IsLateFault }
     ensures counts { Ended result (H.outside host.old) (H.outside host.new) }
     ensures bytes { SameBytes (H.outside host.old) (H.outside host.new) }
-    ensures unwritten { IfOk result (λ drive. has_block (device_of drive).file.phase ≡ false) }
-    ensures drive { IfOk result (λ drive. IfTold ((H.outside host.old).told Disk)
-        (λ bytes. device_of drive ≡ powered_on (stored (sectors_in (size / 512) bytes)) (size / 512))) }
+    ensures began { IfOk result (λ machine.
+        physical machine ≡ drive_over memory (physical machine).kept.durable) }
+    ensures count { IfOk result (λ machine. length (physical machine).kept.durable ≡ size / 512) }
+    ensures sectors { IfOk result (λ machine.
+        All (λ sector. length sector ≡ 512) (physical machine).kept.durable) }
+    ensures disk { IfOk result (λ machine. IfTold ((H.outside host.old).told Disk)
+        (λ bytes. (physical machine).kept.durable ≡ sectors_of_disk bytes)) }
 {
-    let Ok(mut bytes) = Vec::with_capacity(alloc, size as usize) else {
+    let Ok(mut store) = MemoryStore::new(alloc, size / 512) else {
         return Err(Stop::NoMemory);
     };
-    read_disk(host, size, &mut bytes)?;
-    let Ok(drive) = Drive::load(alloc, bytes.as_slice()) else {
+    read_disk(host, &mut store)?;
+    let Ok(memory) = GuestMemory::new(alloc, memory) else {
         return Err(Stop::NoMemory);
     };
-    Ok(drive)
+    let Ok(drive) = Drive::new(alloc, store) else {
+        return Err(Stop::NoMemory);
+    };
+    Ok(Machine { drive, memory })
 }
 
-// Reads all of the disk behind what `bytes` has of it.
-fn read_disk<H: Host>(host: &mut H, size: u64, bytes: &mut Vec<u8>) -> Result<(), Stop>
-    requires empty { bytes.old.items ≡ [] }
-    requires told { IfTold ((H.outside host.old).told Disk) (λ disk. length disk ≡ size) }
+// Reads all sectors of the disk.
+fn read_disk<H: Host>(host: &mut H, store: &mut MemoryStore) -> Result<(), Stop>
+    requires few { 512 * length (list_of store.old) < 2 ^ 64 }
+    requires told { IfTold ((H.outside host.old).told Disk)
+        (λ disk. length disk ≡ 512 * length (list_of store.old)) }
     ensures late { IfErr result IsLateFault }
     ensures counts { Ended result (H.outside host.old) (H.outside host.new) }
     ensures bytes { SameBytes (H.outside host.old) (H.outside host.new) }
-    ensures length { OnOk result (vec_len bytes.new ≡ size) }
-    ensures disk { OnOk result (IfTold ((H.outside host.old).told Disk) (λ disk. bytes.new.items ≡ disk)) }
+    ensures count { length (list_of store.new) ≡ length (list_of store.old) }
+    ensures disk { OnOk result (IfTold ((H.outside host.old).told Disk)
+        (λ disk. list_of store.new ≡ sectors_in (length (list_of store.old)) disk)) }
 {
-    while (bytes.len() as u64) < size {
-        read_piece(host, size, bytes)?;
+    for sector in 0..store.sectors() {
+        read_sector(host, store, sector)?;
     }
     Ok(())
 }
 
-// Reads the next piece of the disk.
-fn read_piece<H: Host>(host: &mut H, size: u64, bytes: &mut Vec<u8>) -> Result<(), Stop>
-    requires more { vec_len bytes.old < size }
-    requires told { IfTold ((H.outside host.old).told Disk) (λ disk. length disk ≡ size) }
+// Reads a sector of the disk.
+fn read_sector<H: Host>(host: &mut H, store: &mut MemoryStore, sector: u64) -> Result<(), Stop>
+    requires within { sector < length (list_of store.old) }
+    requires few { 512 * length (list_of store.old) < 2 ^ 64 }
+    requires told { IfTold ((H.outside host.old).told Disk)
+        (λ disk. length disk ≡ 512 * length (list_of store.old)) }
     ensures late { IfErr result IsLateFault }
     ensures counts { Ended result (H.outside host.old) (H.outside host.new) }
     ensures bytes { SameBytes (H.outside host.old) (H.outside host.new) }
-    ensures longer { OnOk result (vec_len bytes.old < vec_len bytes.new) }
-    ensures within { OnOk result (vec_len bytes.new ≤ size) }
+    ensures count { length (list_of store.new) ≡ length (list_of store.old) }
     ensures disk { OnOk result (IfTold ((H.outside host.old).told Disk)
-        (λ disk. bytes.old.items ≡ take (vec_len bytes.old) disk
-        → bytes.new.items ≡ take (vec_len bytes.new) disk)) }
+        (λ disk. take sector (list_of store.old) ≡ sectors_in sector disk
+        → take (sector + 1) (list_of store.new) ≡ sectors_in (sector + 1) disk)) }
 {
-    let at = bytes.len();
-    let mut piece = [0; PIECE];
-    let part = &mut piece[..PIECE.min(size as usize - at)];
-    let Ok(()) = host.read_at(Role::Disk, at as u64, part) else {
+    let mut bytes = [0; 512];
+    let Ok(()) = host.read_at(Role::Disk, sector * 512, &mut bytes) else {
         return Err(Stop::ReadFault(Role::Disk));
     };
-    let Ok(()) = bytes.extend_from_slice(part) else {
-        return Err(Stop::NoMemory);
-    };
+    // A store in memory has no fault.
+    store.set(sector, &bytes).unwrap();
     Ok(())
 }
 
@@ -86,22 +96,18 @@ fn read_piece<H: Host>(host: &mut H, size: u64, bytes: &mut Vec<u8>) -> Result<(
 type Piece = ArrayVec<u8, PIECE>;
 
 /// Writes to Out what a power cut at this moment leaves of the drive: the durable value of each sector, in order.
-pub fn write_out<H: Host>(host: &mut H, drive: &mut Drive) -> Result<(), Stop>
-    requires { IfTold ((H.outside host.old).told Out) (λ bytes. bytes ≡ []) }
+pub fn write_out<H: Host>(host: &mut H, machine: &mut Machine, sectors: u64) -> Result<(), Stop>
+    requires empty { IfTold ((H.outside host.old).told Out) (λ bytes. bytes ≡ []) }
+    requires count { length (physical machine.old).kept.durable ≡ sectors }
     ensures counts { Ended result (H.outside host.old) (H.outside host.new) }
     ensures fault { IfErr result IsFault }
     ensures files { KeepsFilesBut Out (H.outside host.old) (H.outside host.new) }
     ensures out { OnOk result (IfTold ((H.outside host.new).told Out)
-        (λ bytes. bytes ≡ durable_bytes (device_of drive.old).cells)) }
-    ensures whole { OnOk result (IfTold ((H.outside host.new).told Out)
-        (λ bytes. length bytes ≡ 512 * (device_of drive.old).sectors)) }
-    ensures outcome { OnOk result (IfTold ((H.outside host.new).told Out)
-        (λ bytes. IsOutcome (device_of drive.old).cells
-        (sectors_in (device_of drive.old).sectors bytes))) }
+        (λ bytes. bytes ≡ concat (physical machine.old).kept.durable)) }
 {
     let mut piece = ArrayVec::new();
-    for sector in 0..drive.sectors() {
-        write_sector(host, drive, sector, &mut piece)?;
+    for sector in 0..sectors {
+        write_sector(host, machine, sector, &mut piece)?;
     }
     write_piece(host, &mut piece)?;
     Ok(())
@@ -110,21 +116,22 @@ pub fn write_out<H: Host>(host: &mut H, drive: &mut Drive) -> Result<(), Stop>
 // Appends a sector's durable value.
 fn write_sector<H: Host>(
     host: &mut H,
-    drive: &mut Drive,
+    machine: &mut Machine,
     sector: u64,
     piece: &mut Piece,
 ) -> Result<(), Stop>
-    requires { sector < (device_of drive.old).sectors }
+    requires { sector < length (physical machine.old).kept.durable }
     ensures fault { IfErr result IsFault }
     ensures counts { Ended result (H.outside host.old) (H.outside host.new) }
     ensures files { KeepsFilesBut Out (H.outside host.old) (H.outside host.new) }
-    ensures drive { device_of drive.new ≡ device_of drive.old }
+    ensures machine { physical machine.new ≡ physical machine.old }
     ensures waits { OnOk result ((text : List ℕ) → Waits piece.old.items (H.outside host.old) text
         → Waits piece.new.items (H.outside host.new)
-        (text ++ durable_value sector (device_of drive.old))) }
+        (text ++ slice_index_or (physical machine.old).kept.durable sector [])) }
 {
     let mut value = [0; 512];
-    drive.durable(sector, &mut value);
+    // A store in memory has no fault.
+    machine.drive.durable(sector, &mut value).unwrap();
     make_room(host, piece)?;
     piece.try_extend_from_slice(&value).unwrap();
     Ok(())

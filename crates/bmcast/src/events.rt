@@ -1,99 +1,178 @@
-//! One event of the schedule, on the drive.
+//! One event of the schedule, on a drive without a monitor.
 
-ghost use Rattle.std.specs.Prelude.{◌≡◌, ◌≤◌, ◌<◌, ◌+◌, ◌++◌, ℕ, List, [], ◌∷◌, length, false};
-ghost use Rattle.plain_drive.specs.Plain.{plain};
-ghost use Rattle.plain_drive.specs.Step.{has_block};
-ghost use Rattle.drive_model.specs.Drive.{device_of};
-ghost use Rattle.plain_run.specs.Entry.{commands_in, entry_of};
-ghost use Rattle.plain_drive.specs.Words.{words_read, after_words, bytes_of};
-ghost use Rattle.plain_run.specs.Event.{PlainEvent};
-ghost use Rattle.plain_run.specs.Run.{DirectEvent};
+ghost use Rattle.std.specs.Prelude.{◌≡◌, ◌≤◌, ◌<◌, ◌+◌, ◌++◌, ◌∷◌, ℕ, List, [], length};
 ghost use Rattle.ata_taskfile.specs.Order.{has_range};
-ghost use Rattle.plain_run.specs.Taken.{just_taken, is_just_taken, command_item};
+ghost use Rattle.plain_drive.specs.Plain.{words_of};
+ghost use Rattle.plain_drive.specs.Physical.{seen};
+ghost use Rattle.plain_drive.specs.Words.{words_read, after_words, after_written, bytes_of};
 ghost use Rattle.schedule_text.specs.Line.{IsInRange};
+ghost use Rattle.plain_run.specs.Entry.{answers_in, commands_in, entry_of, plan_in};
+ghost use Rattle.plain_run.specs.Event.{answer_to, memory_read, memory_written};
+ghost use Rattle.plain_run.specs.Run.{DriveEvent, physical_event, plan_due, step_item};
+ghost use Rattle.plain_run.specs.Taken.{just_taken, is_just_taken, command_item};
+ghost use Rattle.bmcast.specs.Machine.{device, physical, with_device, with_memory};
 
-use ata_taskfile::{Kind, Phase, Ports, Reg, Step, Stepped, Taken, TaskFile};
-use drive_model::Drive;
+use crate::machine::Machine;
+use ata_taskfile::{Kind, Phase, Ports, Step, Stepped, Taken, TaskFile};
 use schedule_text::{Emitted, Event, Item};
 
 /// Lets the drive act as one event says, and tells what the report says of it.
-///
-/// No event writes words to Data yet, so no block comes that the drive has to write.
-pub fn apply(drive: &mut Drive, event: &Event, out: &mut Emitted)
-    requires unwritten { has_block (device_of drive.old).file.phase ≡ false }
+pub fn apply(machine: &mut Machine, event: &Event, out: &mut Emitted)
     requires in_range { IsInRange event.now }
     requires items { out.old.items.items ≡ [] }
     requires bytes { out.old.bytes.items ≡ [] }
-    ensures event { DirectEvent (plain (device_of drive.old) [])
-        (entry_of event.now out.new.items.items out.new.bytes.items) (plain (device_of drive.new) []) }
-    ensures unwritten { has_block (device_of drive.new).file.phase ≡ false }
+    ensures event { DriveEvent (physical machine.old)
+        (entry_of event.now out.new.items.items out.new.bytes.items) (physical machine.new) }
 {
-    let was_taken = is_just_taken(drive.file());
-    act(drive, event, out);
+    let was_taken = is_just_taken(machine.drive.file());
+    act(machine, event, out);
     if !was_taken {
-        note_command(drive.file(), out);
+        note_command(machine.drive.file(), out);
     }
 }
 
-// The event's access or step, with its answer or plan item.
-fn act(drive: &mut Drive, event: &Event, out: &mut Emitted)
-    requires unwritten { has_block (device_of drive.old).file.phase ≡ false }
+// The event's access, step, destage or cut, with its answer or plan item.
+fn act(machine: &mut Machine, event: &Event, out: &mut Emitted)
     requires in_range { IsInRange event.now }
     requires items { out.old.items.items ≡ [] }
     requires bytes { out.old.bytes.items ≡ [] }
-    ensures event { PlainEvent (plain (device_of drive.old) [])
-        (entry_of event.now out.new.items.items out.new.bytes.items) (plain (device_of drive.new) []) }
+    ensures after { physical machine.new ≡ physical_event event.now (physical machine.old) }
+    ensures answered { answers_in out.new.items.items out.new.bytes.items
+        ≡ answer_to event.now (seen (physical machine.old)) }
+    ensures planned { plan_in out.new.items.items ≡ plan_due event.now (seen (physical machine.old)) }
     ensures commands { commands_in out.new.items.items ≡ [] }
     ensures room { length out.new.items.items ≤ 1 }
 {
-    match *event {
-        Event::Read8(reg) => {
-            out.bytes.push(drive.read8(reg));
-            out.items.push(Item::Answer);
-        }
-        Event::Write8(reg, v) => drive.write8(reg, v),
-        Event::ReadWords(n) => {
-            read_words(drive, n, out);
-            out.items.push(Item::Answer);
-        }
-        Event::Line => {
-            out.bytes.push(u8::from(drive.line()));
-            out.items.push(Item::Answer);
-        }
-        Event::Drive(step) => make_step(drive, step, out),
+    match event {
+        Event::Read8(reg) => answer(out, &[machine.read8(*reg)]),
+        Event::Write8(reg, v) => machine.write8(*reg, *v),
+        Event::ReadWords(n) => answer_words(machine, *n, out),
+        Event::WriteWords(bytes) => write_words(machine, bytes.as_slice()),
+        Event::ReadPointer => answer(out, &machine.drive.read_pointer().to_be_bytes()),
+        Event::WritePointer(v) => machine.write_pointer(*v),
+        Event::ReadMemory(address, n) => answer_memory(machine, *address, *n, out),
+        Event::WriteMemory(address, bytes) => write_memory(machine, *address, bytes.as_slice()),
+        Event::Line => answer(out, &[u8::from(machine.drive.line())]),
+        Event::Drive(step) => make_step(machine, *step, out),
+        Event::Destage(k) => destage(machine, *k),
+        Event::Cut => cut(machine),
         Event::Remark | Event::End => {}
     }
 }
 
-// Appends the bytes of so many words, read from Data one after the other.
-fn read_words(drive: &mut Drive, n: u32, out: &mut Emitted)
-    requires range { n ≤ 256 }
-    requires bytes { out.old.bytes.items ≡ [] }
-    ensures bytes { out.new.bytes.items ≡ bytes_of (words_read n (device_of drive.old)) }
-    ensures items { out.new.items ≡ out.old.items }
-    ensures after { device_of drive.new ≡ after_words n (device_of drive.old) }
+// The answer of a guest's read.
+fn answer(out: &mut Emitted, bytes: &[u8])
+    requires items { out.old.items.items ≡ [] }
+    requires none { out.old.bytes.items ≡ [] }
+    requires few { length bytes.now ≤ 2000 }
+    ensures items { out.new.items.items ≡ Item.Answer ∷ [] }
+    ensures bytes { out.new.bytes.items ≡ bytes.now }
 {
+    out.bytes.try_extend_from_slice(bytes).unwrap();
+    out.items.push(Item::Answer);
+}
+
+// The answer of so many reads of Data, one after the other.
+fn answer_words(machine: &mut Machine, n: u32, out: &mut Emitted)
+    requires range { n ≤ 256 }
+    requires items { out.old.items.items ≡ [] }
+    requires bytes { out.old.bytes.items ≡ [] }
+    ensures items { out.new.items.items ≡ Item.Answer ∷ [] }
+    ensures bytes { out.new.bytes.items ≡ bytes_of (words_read n (device machine.old)) }
+    ensures after { physical machine.new ≡ with_device (after_words n (device machine.old)) (physical machine.old) }
+{
+    out.items.push(Item::Answer);
     for _ in 0..n {
-        let word = drive.read_word();
+        let word = machine.read_word();
         out.bytes.push((word % 256) as u8);
         out.bytes.push((word / 256) as u8);
     }
 }
 
-// A good step that has an effect is told; the failing step isn't built.
-fn make_step(drive: &mut Drive, step: Step, out: &mut Emitted)
-    requires unwritten { has_block (device_of drive.old).file.phase ≡ false }
-    requires built { step ≡ Step.Good }
+// Writes words to Data, one after the other; each has its low byte first.
+fn write_words(machine: &mut Machine, bytes: &[u8])
+    ensures after { physical machine.new
+        ≡ with_device (after_written (words_of bytes.now) (device machine.old)) (physical machine.old) }
+{
+    let mut left = bytes;
+    while let [low, high, rest @ ..] = left {
+        machine.write_word(u16::from_le_bytes([*low, *high]));
+        left = rest;
+    }
+}
+
+// The answer of a read of the guest's memory.
+fn answer_memory(machine: &Machine, address: u32, n: u32, out: &mut Emitted)
+    requires range { n ≤ 2000 }
     requires items { out.old.items.items ≡ [] }
     requires bytes { out.old.bytes.items ≡ [] }
-    ensures event { PlainEvent (plain (device_of drive.old) [])
-        (entry_of (Event.Drive step) out.new.items.items out.new.bytes.items) (plain (device_of drive.new) []) }
+    ensures items { out.new.items.items ≡ Item.Answer ∷ [] }
+    ensures bytes { out.new.bytes.items ≡ memory_read address n machine.now.memory }
+{
+    out.items.push(Item::Answer);
+    for i in 0..n {
+        out.bytes
+            .push(machine.byte(u64::from(address) + u64::from(i)));
+    }
+}
+
+// Writes the guest's memory.
+fn write_memory(machine: &mut Machine, address: u32, bytes: &[u8])
+    requires few { length bytes.now ≤ 2000 }
+    ensures after { physical machine.new
+        ≡ with_memory (memory_written address bytes.now machine.old.memory) (physical machine.old) }
+{
+    let mut place = u64::from(address);
+    let mut left = bytes;
+    while let [byte, rest @ ..] = left {
+        machine.set_byte(place, *byte);
+        place += 1;
+        left = rest;
+    }
+}
+
+// A step that has an effect is told.
+#[tactic(auto, using(crate::proofs::EventLaws::step_items))]
+fn make_step(machine: &mut Machine, step: Step, out: &mut Emitted)
+    requires items { out.old.items.items ≡ [] }
+    ensures after { physical machine.new ≡ physical_event (Event.Drive step) (physical machine.old) }
+    ensures answered { answers_in out.new.items.items out.new.bytes.items ≡ [] }
+    ensures planned { plan_in out.new.items.items
+        ≡ plan_due (Event.Drive step) (seen (physical machine.old)) }
     ensures commands { commands_in out.new.items.items ≡ [] }
     ensures room { length out.new.items.items ≤ 1 }
 {
-    if let Stepped::Changed = drive.step(step) {
-        out.items.push(Item::Go(1));
+    // A store in memory has no fault.
+    let stepped = machine.drive.step(step, &mut machine.memory).unwrap();
+    if let Stepped::Nothing = stepped {
+        return;
     }
+    out.items.push(step_item(step));
+}
+
+fn step_item(step: Step) -> Item
+    ensures { result ≡ step_item step }
+{
+    match step {
+        Step::Good => Item::Go(1),
+        Step::Bad => Item::Bad,
+    }
+}
+
+// Entry `k` of the cache becomes durable; no guest sees it.
+fn destage(machine: &mut Machine, k: u32)
+    ensures after { physical machine.new ≡ physical_event (Event.Destage k) (physical machine.old) }
+{
+    // A store in memory has no fault.
+    let _ = machine.drive.destage(k).unwrap();
+}
+
+// The power goes and comes back: what was durable stays, and the guest's memory is zeros.
+fn cut(machine: &mut Machine)
+    ensures after { physical machine.new ≡ physical_event Event.Cut (physical machine.old) }
+{
+    machine.drive.cut();
+    machine.memory.clear();
 }
 
 // The item of a command that the drive has just taken.

@@ -11,12 +11,13 @@ mod console;
 mod disk;
 mod events;
 mod lengths;
+mod machine;
 mod play;
 mod run;
 mod stop;
 mod streams;
 
-ghost use Rattle.bmcast.specs.Run.{IsBadLine, IsDone, IsReady};
+ghost use Rattle.bmcast.specs.Run.{IsReady, RunIsBad, RunIsDone};
 ghost use Rattle.bmcast.specs.Kept.{IsUnopened, LeavesFiles};
 ghost use Rattle.bmcast.specs.Lengths.{CanRun};
 ghost use Rattle.bmcast.specs.Owed.{AnswersWhatIsOwed};
@@ -82,8 +83,10 @@ impl Status {
 /// lengths (Unsuitable), an image that isn't empty (NotYet), the schedule's first line that isn't one (BadLine). A
 /// fault comes only where that role's count of faults rose.
 pub fn bmcast<H: Host>(alloc: Global, words: &[String], host: &mut H) -> Status
-    ensures done { OnDone result (IsDone (H.outside host.old) (H.outside host.new)) }
-    ensures bad_line { OnBadLineStatus result (IsBadLine (H.outside host.old) (H.outside host.new)) }
+    ensures done { OnDone result
+        (RunIsDone (texts words.now) (H.outside host.old) (H.outside host.new)) }
+    ensures bad_line { OnBadLineStatus result
+        (RunIsBad (texts words.now) (H.outside host.old) (H.outside host.new)) }
 
     // Of words and lengths each status has its reason, and no other status has it.
     ensures reason { HasItsReason result (texts words.now) (H.outside host.old) }

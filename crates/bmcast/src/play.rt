@@ -1,28 +1,27 @@
 //! The events of the schedule, read, done and reported one line at a time.
 
-ghost use Rattle.std.specs.Prelude.{◌≡◌, ◌≢◌, ◌≤◌, ◌<◌, ◌+◌, ◌++◌, ◌^◌, ℕ, List, [], ◌∷◌, length, IfErr, IfOk, OnOk, false};
+ghost use Rattle.std.specs.Prelude.{◌≡◌, ◌≢◌, ◌≤◌, ◌<◌, ◌+◌, ◌++◌, ◌^◌, ℕ, List, [], ◌∷◌, length, IfErr, IfOk, OnOk};
 ghost use Rattle.bm_host.specs.Outside.{Outside, IfTold};
 ghost use Rattle.bm_host.specs.declared.Role.TheVariants.{Schedule};
-ghost use Rattle.plain_drive.specs.Plain.{plain, Plain};
-ghost use Rattle.plain_drive.specs.Step.{has_block};
-ghost use Rattle.drive_model.specs.Drive.{device_of};
+ghost use Rattle.plain_drive.specs.Physical.{Physical};
+ghost use Rattle.bmcast.specs.Machine.{physical};
 ghost use Rattle.schedule_text.specs.Line.{Says, IsInRange};
 ghost use Rattle.schedule_text.specs.declared.Event.{Event as EventOf};
 ghost use Rattle.schedule_text.specs.Schedule.{HasNoEnd, HasRead};
 ghost use Rattle.schedule_text.specs.BadLine.{FailsAt, LineFails};
 ghost use Rattle.plain_run.specs.Entry.{entry_of, items_text};
-ghost use Rattle.plain_run.specs.Run.{DirectEvent};
+ghost use Rattle.plain_run.specs.Run.{DriveEvent};
 ghost use Rattle.bmcast.specs.BadLine.{HasFailed};
 ghost use Rattle.bmcast.specs.Stop.{Ended, IsFault, IsPlayStop, OnBadLine, UnlessFault};
 ghost use Rattle.bmcast.specs.Streams.{unread, Said, KeepsFiles};
 ghost use Rattle.bmcast.specs.Played.{HasPlayed, HasDone, HasEnded, Progresses};
 
 use crate::events::apply;
+use crate::machine::Machine;
 use crate::stop::Stop;
 use crate::streams::{Fetched, Line, Streams};
 use arrayvec::ArrayVec;
 use bm_host::Host;
-use drive_model::Drive;
 use schedule_text::{Emitted, Event, LAST_LINE, LineFault, read_line};
 
 /// Whether a schedule goes on.
@@ -85,19 +84,17 @@ fn said_by(line: &Line, number: u32) -> Result<Event, Stop>
 fn do_event<H: Host>(
     host: &mut H,
     streams: &mut Streams,
-    drive: &mut Drive,
+    machine: &mut Machine,
     event: &Event,
     number: u32,
     out: &mut Emitted,
 ) -> Result<(), Stop>
-    requires unwritten { has_block (device_of drive.old).file.phase ≡ false }
     requires in_range { IsInRange event.now }
     ensures counts { Ended result (H.outside host.old) (H.outside host.new) }
     ensures fault { IfErr result IsFault }
     ensures files { KeepsFiles (H.outside host.old) (H.outside host.new) }
-    ensures event { DirectEvent (plain (device_of drive.old) [])
-        (entry_of event.now out.new.items.items out.new.bytes.items) (plain (device_of drive.new) []) }
-    ensures unwritten { has_block (device_of drive.new).file.phase ≡ false }
+    ensures event { DriveEvent (physical machine.old)
+        (entry_of event.now out.new.items.items out.new.bytes.items) (physical machine.new) }
     ensures said { OnOk result ((text : List ℕ) → Said streams.old (H.outside host.old) text
         → Said streams.new (H.outside host.new)
         (text ++ items_text number out.new.items.items out.new.bytes.items)) }
@@ -105,7 +102,7 @@ fn do_event<H: Host>(
         ≡ unread streams.old (H.outside host.old) text) }
 {
     out.clear();
-    apply(drive, event, out);
+    apply(machine, event, out);
     streams.report(host, number, out)
 }
 
@@ -113,30 +110,28 @@ fn do_event<H: Host>(
 fn take_line<H: Host>(
     host: &mut H,
     streams: &mut Streams,
-    drive: &mut Drive,
+    machine: &mut Machine,
     line: &mut Line,
     out: &mut Emitted,
     number: u32,
 ) -> Result<Event, Stop>
-    requires unwritten { has_block (device_of drive.old).file.phase ≡ false }
     requires number { number ≤ LAST_LINE }
-    ensures unwritten { has_block (device_of drive.new).file.phase ≡ false }
     ensures play { IfErr result IsPlayStop }
     ensures counts { Ended result (H.outside host.old) (H.outside host.new) }
     ensures files { KeepsFiles (H.outside host.old) (H.outside host.new) }
-    ensures done { IfOk result (λ event. (start : Plain) (n : ℕ) → n + 1 ≡ number
-        → HasPlayed start streams.old (H.outside host.old) (plain (device_of drive.old) []) n
-        → HasDone start streams.new (H.outside host.new) (plain (device_of drive.new) []) event number) }
+    ensures done { IfOk result (λ event. (start : Physical) (n : ℕ) → n + 1 ≡ number
+        → HasPlayed start streams.old (H.outside host.old) (physical machine.old) n
+        → HasDone start streams.new (H.outside host.new) (physical machine.new) event number) }
     ensures last { IfOk result (λ event. number ≡ LAST_LINE → event ≡ Event.End) }
-    ensures bad { OnBadLine result (λ bad kind. (start : Plain) (n : ℕ) → n + 1 ≡ number
-        → HasPlayed start streams.old (H.outside host.old) (plain (device_of drive.old) []) n
-        → HasFailed start streams.new (H.outside host.new) (plain (device_of drive.new) []) bad kind) }
+    ensures bad { OnBadLine result (λ bad kind. (start : Physical) (n : ℕ) → n + 1 ≡ number
+        → HasPlayed start streams.old (H.outside host.old) (physical machine.old) n
+        → HasFailed start streams.new (H.outside host.new) (physical machine.new) bad kind) }
 {
     let event = match next_event(host, streams, line, number) {
         Ok(event) => event,
         Err(stop) => return Err(stop),
     };
-    do_event(host, streams, drive, &event, number, out)?;
+    do_event(host, streams, machine, &event, number, out)?;
     Ok(event)
 }
 
@@ -165,27 +160,25 @@ fn expect_end<H: Host>(host: &mut H, streams: &mut Streams, number: u32) -> Resu
 fn play_line<H: Host>(
     host: &mut H,
     streams: &mut Streams,
-    drive: &mut Drive,
+    machine: &mut Machine,
     line: &mut Line,
     out: &mut Emitted,
     number: u32,
 ) -> Result<Progress, Stop>
-    requires unwritten { has_block (device_of drive.old).file.phase ≡ false }
     requires number { number ≤ LAST_LINE }
-    ensures unwritten { has_block (device_of drive.new).file.phase ≡ false }
     ensures play { IfErr result IsPlayStop }
     ensures counts { Ended result (H.outside host.old) (H.outside host.new) }
     ensures files { KeepsFiles (H.outside host.old) (H.outside host.new) }
-    ensures progress { IfOk result (λ progress. (start : Plain) (n : ℕ) → n + 1 ≡ number
-        → HasPlayed start streams.old (H.outside host.old) (plain (device_of drive.old) []) n
+    ensures progress { IfOk result (λ progress. (start : Physical) (n : ℕ) → n + 1 ≡ number
+        → HasPlayed start streams.old (H.outside host.old) (physical machine.old) n
         → Progresses progress start streams.new (H.outside host.new)
-        (plain (device_of drive.new) []) number) }
+        (physical machine.new) number) }
     ensures more { IfOk result (λ progress. progress ≡ Progress.More → number ≢ LAST_LINE) }
-    ensures bad { OnBadLine result (λ bad kind. (start : Plain) (n : ℕ) → n + 1 ≡ number
-        → HasPlayed start streams.old (H.outside host.old) (plain (device_of drive.old) []) n
-        → HasFailed start streams.new (H.outside host.new) (plain (device_of drive.new) []) bad kind) }
+    ensures bad { OnBadLine result (λ bad kind. (start : Physical) (n : ℕ) → n + 1 ≡ number
+        → HasPlayed start streams.old (H.outside host.old) (physical machine.old) n
+        → HasFailed start streams.new (H.outside host.new) (physical machine.new) bad kind) }
 {
-    let event = match take_line(host, streams, drive, line, out, number) {
+    let event = match take_line(host, streams, machine, line, out, number) {
         Ok(event) => event,
         Err(stop) => return Err(stop),
     };
@@ -199,22 +192,25 @@ fn play_line<H: Host>(
 }
 
 /// Reads, does and reports the events of the schedule to its end, and answers the number of its line `end`.
-pub fn play<H: Host>(host: &mut H, streams: &mut Streams, drive: &mut Drive) -> Result<u32, Stop>
-    requires { has_block (device_of drive.old).file.phase ≡ false }
+pub fn play<H: Host>(
+    host: &mut H,
+    streams: &mut Streams,
+    machine: &mut Machine,
+) -> Result<u32, Stop>
     ensures play { IfErr result IsPlayStop }
     ensures counts { Ended result (H.outside host.old) (H.outside host.new) }
     ensures files { KeepsFiles (H.outside host.old) (H.outside host.new) }
-    ensures ended { IfOk result (λ number. (start : Plain)
-        → HasPlayed start streams.old (H.outside host.old) (plain (device_of drive.old) []) 0
-        → HasEnded start streams.new (H.outside host.new) (plain (device_of drive.new) []) number) }
-    ensures bad { OnBadLine result (λ bad kind. (start : Plain)
-        → HasPlayed start streams.old (H.outside host.old) (plain (device_of drive.old) []) 0
-        → HasFailed start streams.new (H.outside host.new) (plain (device_of drive.new) []) bad kind) }
+    ensures ended { IfOk result (λ number. (start : Physical)
+        → HasPlayed start streams.old (H.outside host.old) (physical machine.old) 0
+        → HasEnded start streams.new (H.outside host.new) (physical machine.new) number) }
+    ensures bad { OnBadLine result (λ bad kind. (start : Physical)
+        → HasPlayed start streams.old (H.outside host.old) (physical machine.old) 0
+        → HasFailed start streams.new (H.outside host.new) (physical machine.new) bad kind) }
 {
     let mut line = ArrayVec::new();
     let mut out = Emitted::new();
     for number in 1..=LAST_LINE {
-        match play_line(host, streams, drive, &mut line, &mut out, number) {
+        match play_line(host, streams, machine, &mut line, &mut out, number) {
             Ok(Progress::More) => {}
             Ok(Progress::Ended) => return Ok(number),
             Err(stop) => return Err(stop),

@@ -1,11 +1,10 @@
 //! A whole run, step by step: words, lengths, files, disk, events, report and out.
 
-ghost use Rattle.std.specs.Prelude.{◌≡◌, ◌/◌, ◌*◌, ◌%◌, ◌⊎◌, ℕ, List, [], length, IfErr, OnOk, IfOk, false};
+ghost use Rattle.std.specs.Prelude.{◌≡◌, ◌/◌, ◌*◌, ◌%◌, ◌≤◌, ◌⊎◌, ℕ, List, [], length, IfErr, OnOk, IfOk};
 ghost use Rattle.bm_host.specs.Outside.{IfTold};
 ghost use Rattle.bm_host.specs.declared.Role.TheVariants.{Disk, Out};
-ghost use Rattle.plain_drive.specs.Plain.{plain, Plain};
-ghost use Rattle.plain_drive.specs.Step.{has_block};
-ghost use Rattle.drive_model.specs.Drive.{device_of};
+ghost use Rattle.plain_drive.specs.Physical.{Physical};
+ghost use Rattle.bmcast.specs.Machine.{physical};
 ghost use Rattle.run_words.specs.Pairs.{texts};
 ghost use Rattle.bmcast.specs.Kept.{IsUnopened, LeavesFiles};
 ghost use Rattle.bmcast.specs.Lengths.{CanRun};
@@ -14,15 +13,16 @@ ghost use Rattle.bmcast.specs.BadLine.{HasFailed};
 ghost use Rattle.bmcast.specs.Status.{Chooses, HasItsReason, OnNoMemory, SameConsole, status_after};
 ghost use Rattle.bmcast.specs.Streams.{KeepsFiles};
 ghost use Rattle.bmcast.specs.Played.{HasPlayed, HasEnded};
-ghost use Rattle.bmcast.specs.Run.{IsReady, IsReported, IsStopped, IsDone, IsBadLine};
+ghost use Rattle.bmcast.specs.Run.{IsReady, IsReported, IsStopped, IsDone, IsBadLine, RunIsBad, RunIsDone};
 
 use crate::disk::{load, write_out};
 use crate::lengths::measure;
+use crate::machine::Machine;
 use crate::play::play;
 use crate::stop::Stop;
 use crate::streams::Streams;
+use bm_dma::MOST_BYTES;
 use bm_host::{Host, Role};
-use drive_model::Drive;
 use run_words::{Options, read_options};
 use std::alloc::Global;
 
@@ -31,8 +31,10 @@ use std::alloc::Global;
 /// Memory is taken before the first event and not after it.
 pub fn run<H: Host>(alloc: Global, words: &[String], host: &mut H) -> Result<(), Stop>
     ensures counts { Ended result (H.outside host.old) (H.outside host.new) }
-    ensures done { OnOk result (IsDone (H.outside host.old) (H.outside host.new)) }
-    ensures bad { OnBadLine result (IsBadLine (H.outside host.old) (H.outside host.new)) }
+    ensures done { OnOk result
+        (RunIsDone (texts words.now) (H.outside host.old) (H.outside host.new)) }
+    ensures bad { OnBadLine result
+        (RunIsBad (texts words.now) (H.outside host.old) (H.outside host.new)) }
     ensures reason { HasItsReason (status_after result) (texts words.now) (H.outside host.old) }
     ensures files { LeavesFiles (status_after result) (H.outside host.old) (H.outside host.new) }
     ensures opened { IsUnopened (H.outside host.old) (H.outside host.new)
@@ -49,6 +51,7 @@ pub fn run<H: Host>(alloc: Global, words: &[String], host: &mut H) -> Result<(),
     };
     run_events(alloc, host, &options, size)
 }
+
 // Does the events over files that are suitable, of which the disk has `size` bytes.
 fn run_events<H: Host>(
     alloc: Global,
@@ -57,22 +60,24 @@ fn run_events<H: Host>(
     size: u64,
 ) -> Result<(), Stop>
     requires whole { size % 512 ≡ 0 }
+    requires memory { options.now.memory ≤ MOST_BYTES }
     requires disk { IfTold ((H.outside host.old).told Disk) (λ bytes. length bytes ≡ size) }
     ensures counts { Ended result (H.outside host.old) (H.outside host.new) }
     ensures late { IfErr result IsLate }
-    ensures done { OnOk result (IsDone (H.outside host.old) (H.outside host.new)) }
-    ensures bad { OnBadLine result (IsBadLine (H.outside host.old) (H.outside host.new)) }
+    ensures done { OnOk result (IsDone options.now.memory (H.outside host.old) (H.outside host.new)) }
+    ensures bad { OnBadLine result
+        (IsBadLine options.now.memory (H.outside host.old) (H.outside host.new)) }
     ensures files { LeavesFiles (status_after result) (H.outside host.old) (H.outside host.new) }
     ensures memory { OnNoMemory (status_after result) (IsReady (H.outside host.new)) }
     ensures console { SameConsole (H.outside host.old) (H.outside host.new) }
 {
     begin_files(host, options)?;
-    let mut drive = load(alloc, host, size)?;
-    match report_run(host, &mut drive) {
+    let mut machine = load(alloc, host, size, options.memory as u32)?;
+    match report_run(host, &mut machine) {
         Ok(()) => {}
         Err(stop) => return Err(stop),
     }
-    write_out(host, &mut drive)?;
+    write_out(host, &mut machine, size / 512)?;
     Ok(())
 }
 
@@ -97,19 +102,18 @@ fn begin_files<H: Host>(host: &mut H, options: &Options<'_>) -> Result<(), Stop>
 }
 
 // Plays the schedule to its end, and writes the report; the same up to a line that is bad.
-fn report_run<H: Host>(host: &mut H, drive: &mut Drive) -> Result<(), Stop>
+fn report_run<H: Host>(host: &mut H, machine: &mut Machine) -> Result<(), Stop>
     requires ready { IsReady (H.outside host.old) }
-    requires unwritten { has_block (device_of drive.old).file.phase ≡ false }
     ensures counts { Ended result (H.outside host.old) (H.outside host.new) }
     ensures files { KeepsFiles (H.outside host.old) (H.outside host.new) }
     ensures play { IfErr result IsPlayStop }
     ensures reported { OnOk result (IsReported (H.outside host.old) (H.outside host.new)
-        (plain (device_of drive.old) []) (plain (device_of drive.new) [])) }
+        (physical machine.old) (physical machine.new)) }
     ensures bad { OnBadLine result (IsStopped (H.outside host.old) (H.outside host.new)
-        (plain (device_of drive.old) []) (plain (device_of drive.new) [])) }
+        (physical machine.old) (physical machine.new)) }
 {
     let mut streams = Streams::new();
-    let number = match play_to_end(host, &mut streams, drive) {
+    let number = match play_to_end(host, &mut streams, machine) {
         Ok(number) => number,
         Err(stop) => return Err(stop),
     };
@@ -119,20 +123,23 @@ fn report_run<H: Host>(host: &mut H, drive: &mut Drive) -> Result<(), Stop>
 }
 
 // Plays the schedule. Where a line isn't one, the report of the events before it is written all the same.
-fn play_to_end<H: Host>(host: &mut H, streams: &mut Streams, drive: &mut Drive) -> Result<u32, Stop>
-    requires { has_block (device_of drive.old).file.phase ≡ false }
+fn play_to_end<H: Host>(
+    host: &mut H,
+    streams: &mut Streams,
+    machine: &mut Machine,
+) -> Result<u32, Stop>
     ensures counts { Ended result (H.outside host.old) (H.outside host.new) }
     ensures files { KeepsFiles (H.outside host.old) (H.outside host.new) }
     ensures play { IfErr result IsPlayStop }
-    ensures ended { IfOk result (λ number. (start : Plain)
-        → HasPlayed start streams.old (H.outside host.old) (plain (device_of drive.old) []) 0
-        → HasEnded start streams.new (H.outside host.new) (plain (device_of drive.new) []) number) }
-    ensures bad { OnBadLine result (λ bad kind. (start : Plain)
-        → HasPlayed start streams.old (H.outside host.old) (plain (device_of drive.old) []) 0
-        → HasFailed start streams.new (H.outside host.new) (plain (device_of drive.new) []) bad kind) }
+    ensures ended { IfOk result (λ number. (start : Physical)
+        → HasPlayed start streams.old (H.outside host.old) (physical machine.old) 0
+        → HasEnded start streams.new (H.outside host.new) (physical machine.new) number) }
+    ensures bad { OnBadLine result (λ bad kind. (start : Physical)
+        → HasPlayed start streams.old (H.outside host.old) (physical machine.old) 0
+        → HasFailed start streams.new (H.outside host.new) (physical machine.new) bad kind) }
     ensures written { OnBadLine result (λ bad kind. streams.new.pending.items ≡ []) }
 {
-    match play(host, streams, drive) {
+    match play(host, streams, machine) {
         Ok(number) => Ok(number),
         Err(Stop::BadLine(number, fault)) => match streams.flush(host) {
             Ok(()) => Err(Stop::BadLine(number, fault)),

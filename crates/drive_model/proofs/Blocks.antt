@@ -91,11 +91,3 @@ bytes_more i low high words bytes whole within below is_low is_high so_far =
     pushed : (front : List ℕ) (w : ℕ) → bytes_of (front ++ w ∷ []) ≡ bytes_of front ++ w % 256 ∷ w / 256 ∷ []
     pushed [] w = refl
     pushed (x ∷ front) w = ap (λ ws. (x % 256) ∷ (x / 256) ∷ ws) (pushed front w)
-
--- a block has the bytes of a sector
-pub length_bytes : (block : List ℕ) → length block ≡ 256 → length (bytes_of block) ≡ 512
-length_bytes block whole = let two = doubled block in omega arith
-  where
-    doubled : (words : List ℕ) → length (bytes_of words) ≡ length words + length words
-    doubled [] = refl
-    doubled (w ∷ words) = let rest = doubled words in omega arith

@@ -1,3 +1,5 @@
-pub mod Sectors
 mod Blocks
-pub mod Writes
+pub mod Told
+pub mod Entries
+pub mod Values
+pub mod Worked

@@ -1,15 +1,59 @@
--- A drive as a device.
+-- What a drive means.
+use Rattle.std.specs.Prelude.{ℕ, List, []}
 use Rattle.ata_taskfile.specs.Device.{Device}
-use Rattle.plain_drive.specs.Plain.{stored, sectors_in}
+use Rattle.drive_store.specs.Store.{Becomes}
+use Rattle.drive_store.specs.declared.store.Store.{Ghosts}
+use Rattle.write_cache.specs.Cache.{Cached}
+use Rattle.plain_drive.specs.Plain.{Plain}
+use Rattle.plain_drive.specs.Change.{Change}
+use Rattle.plain_drive.specs.Physical.{Physical, seen, keeping, kept_after}
 use Rattle.drive_model.specs.Block.{block_of}
+use Rattle.drive_model.specs.CachedStore.{kept_of}
 use Rattle.drive_model.specs.declared.drive.Drive.{Drive}
 
--- the device that a drive means: each sector holds one durable value
-abbrev pub device_of : Drive → Device
-device_of d = record {
+-- the store of a drive
+abbrev pub store_of : {S : Type 0} {T : Ghosts S} → Drive S T → S
+store_of {S} {T} d = d.sectors.store
+
+-- how often a call to its store failed
+abbrev pub faults_of : {S : Type 0} {T : Ghosts S} → Drive S T → ℕ
+faults_of {S} {T} d = T.faults d.sectors.store
+
+-- what no call to its store changes
+abbrev pub rest_of : {S : Type 0} {T : Ghosts S} → Drive S T → T.Rest
+rest_of {S} {T} d = T.rest d.sectors.store
+
+-- how many sectors its store has
+abbrev pub count_of : {S : Type 0} {T : Ghosts S} → Drive S T → ℕ
+count_of {S} {T} d = (T.sectors d.sectors.store).count
+
+-- the physical drive that a drive is, beside such a memory of the guest
+abbrev pub physical_of : {S : Type 0} {T : Ghosts S} → Drive S T → List ℕ → Physical
+physical_of {S} {T} d memory = record {
   file = d.file;
   bus = d.bus;
   block = block_of d.block d.words;
-  cells = stored (sectors_in d.sectors d.bytes.items);
-  sectors = d.sectors;
+  sectors = (T.sectors d.sectors.store).count;
+  memory = memory;
+  kept = kept_of d.sectors;
 }
+
+-- the device that its guest reaches
+abbrev pub device_of : {S : Type 0} {T : Ghosts S} → Drive S T → Device
+device_of {S} {T} d = (seen (physical_of d [])).device
+
+-- this holds where the store tells its sectors before and after; it doesn't begin to tell them
+abbrev pub IfTold : {S : Type 0} {T : Ghosts S} → Drive S T → Drive S T → Type 0 → Type 0
+IfTold {S} {T} old new P = Becomes (λ _ _. P) (T.sectors old.sectors.store).told (T.sectors new.sectors.store).told
+
+-- the drive after work that changes what the guest sees in this way, and the sectors in that
+abbrev pub worked : Change → (Plain → Plain) → Physical → Physical
+worked change work p = keeping (kept_after change p.kept) (work (seen p))
+
+-- what stands behind the registers of a drive: the entries of its cache, and its store
+pub record Behind (S : Type 0) : Type 0 where
+  pub cache : Cached
+  pub store : S
+
+abbrev pub behind : {S : Type 0} {T : Ghosts S} → Drive S T → Behind S
+behind {S} {T} d = record { cache = d.sectors.cache; store = d.sectors.store }

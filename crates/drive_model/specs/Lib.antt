@@ -1,3 +1,4 @@
 pub mod Block
-pub mod Durable
+pub mod Entries
+pub mod CachedStore
 pub mod Drive

@@ -1,76 +1,109 @@
 //! The drive: what it is made of, and what can be asked of it.
 
-ghost use Rattle.std.specs.Prelude.{◌≡◌, ◌+◌, ◌*◌, ◌/◌, ◌%◌, ◌<◌, ◌≤◌, ◌++◌, ◌∷◌, [], ℕ, List, length, slice_index, IfOk};
+ghost use Rattle.std.specs.Prelude.{◌≡◌, length};
 ghost use Rattle.ata_taskfile.specs.Lawful.{IsLawfulState};
-ghost use Rattle.ata_taskfile.specs.Device.{with_file, with_phase, powered_on};
 ghost use Rattle.drive_model.specs.Block.{block_of};
-ghost use Rattle.plain_drive.specs.Plain.{stored, sectors_in, durable_value, HasWholeCells};
 
-use ata_taskfile::{Bus, Phase, TaskFile};
+use crate::cached_store::CachedStore;
+use ata_taskfile::{Bus, Phase, Stepped, TaskFile};
+use drive_store::{Store, StoreFault};
 use std::alloc::{AllocError, Global};
 
-/// A drive whose sectors hold the bytes that it was loaded with, or what was written since.
+/// A drive over a store.
 #[derive(Drop)]
-pub struct Drive {
+pub struct Drive<S: Store> {
     pub(crate) file: TaskFile,
     pub(crate) bus: Bus,
     pub(crate) block: [u16; 256],
     // How many words of the block there are.
     pub(crate) words: u16,
-    pub(crate) bytes: Vec<u8>,
-    pub(crate) sectors: u64,
-    ghost whole: { length bytes.items ≡ 512 * sectors },
+    pub(crate) sectors: CachedStore<S>,
     ghost counted: { length (block_of block words) ≡ words },
-    ghost lawful: { IsLawfulState file bus words sectors },
+    ghost lawful: { IsLawfulState file bus words (S.sectors sectors.store).count },
 }
 
-impl Drive {
-    ghost use Rattle.drive_model.specs.Drive.{device_of};
+impl<S: Store + Drop> Drive<S> {
+    ghost use Rattle.std.specs.Prelude.{ℕ, List, IfOk};
+    ghost use Rattle.plain_drive.specs.Physical.{fresh, physical_at_power_on};
+    ghost use Rattle.drive_model.specs.CachedStore.{list_told};
+    ghost use Rattle.drive_model.specs.Drive.{physical_of, store_of};
 
-    /// A drive at power-on over these bytes, 512 to a sector, each sector durable.
-    ///
-    /// It fails only for want of memory.
-    pub fn load(alloc: Global, bytes: &[u8]) -> Result<Drive, AllocError>
-        requires { length bytes.now % 512 ≡ 0 }
-        ensures { IfOk result (λ d. let n = length bytes.now / 512 in
-            device_of d ≡ powered_on (stored (sectors_in n bytes.now)) n) }
+    /// A drive at power-on over a store, whose sectors are all durable. It fails only for want of memory; no later
+    /// call takes any.
+    pub fn new(alloc: Global, store: S) -> Result<Drive<S>, AllocError>
+        ensures power_on { let list = list_told (S.sectors store).told in
+            IfOk result (λ d. (memory : List ℕ) → physical_of d memory
+            ≡ physical_at_power_on (fresh 64 list) (S.sectors store).count memory) }
+        ensures store { IfOk result (λ d. store_of d ≡ store) }
     {
         Ok(Drive {
             file: TaskFile::power_on(),
             bus: Bus::power_on(),
             block: [0; 256],
             words: 0,
-            bytes: Vec::from_slice(alloc, bytes)?,
-            sectors: bytes.len() as u64 / 512,
+            sectors: CachedStore::new(alloc, store)?,
         })
+    }
+}
+
+impl<S: Store> Drive<S> {
+    ghost use Rattle.std.specs.Prelude.{◌<◌, ◌≤◌, ◌+◌, ◌++◌, ◌∷◌, ℕ, List, [], IfSome, IfOk, OnOk, Ok, Some, is_some, slice_get, slice_index};
+    ghost use Rattle.ata_taskfile.specs.Device.{with_file, with_phase};
+    ghost use Rattle.drive_store.specs.Store.{Counted};
+    ghost use Rattle.plain_drive.specs.Plain.{with_registers, with_block};
+    ghost use Rattle.plain_drive.specs.Change.{leaves};
+    ghost use Rattle.plain_drive.specs.Physical.{physical_cut, physical_destaged};
+    ghost use Rattle.plain_drive.specs.Step.{stepped_if};
+    ghost use Rattle.drive_model.specs.Drive.{IfTold, count_of, device_of, faults_of, physical_of, rest_of, store_of, worked};
+
+    /// A power cut: the durable values stay, and the drive is at power-on.
+    pub fn cut(&mut self)
+        ensures cut { (old new : List ℕ) →
+            physical_of self.new new ≡ physical_cut new (physical_of self.old old) }
+        ensures store { store_of self.new ≡ store_of self.old }
+    {
+        self.sectors.cache.clear();
+        self.file = TaskFile::power_on();
+        self.bus = Bus::power_on();
+        self.words = 0;
     }
 
     /// The registers.
     pub fn file(&self) -> &TaskFile
-        ensures { result.now ≡ (device_of self.now).file }
+        ensures { (memory : List ℕ) → result.now ≡ (physical_of self.now memory).file }
     {
         &self.file
     }
 
-    /// How many sectors the drive has.
-    #[tactic(auto, using(crate::proofs::Sectors::stores))]
-    pub fn sectors(&self) -> u64
-        ensures count { result ≡ (device_of self.now).sectors }
-        ensures cells { length (device_of self.now).cells ≡ (device_of self.now).sectors }
-        ensures whole { HasWholeCells (device_of self.now).cells }
+    /// Copies the durable value of an existing sector. After `StoreFault` nothing is said of what was copied.
+    pub fn durable(&mut self, sector: u64, into: &mut [u8; 512]) -> Result<(), StoreFault>
+        requires { sector < count_of self.old }
+        ensures cause { Counted (faults_of self.old) (faults_of self.new) result }
+        ensures rest { rest_of self.new ≡ rest_of self.old }
+        ensures value { OnOk result (IfSome (S.sectors (store_of self.old)).told
+            (λ list. slice_get list sector ≡ Some into.new)) }
+        ensures sectors { S.sectors (store_of self.new) ≡ S.sectors (store_of self.old) }
+        ensures unmoved { (memory : List ℕ) →
+            physical_of self.new memory ≡ physical_of self.old memory }
     {
-        self.sectors
+        self.sectors.store.get(sector, into)
     }
 
-    /// Copies the durable value of an existing sector.
-    #[tactic(auto, using(crate::proofs::Sectors::cell_at))]
-    pub fn durable(&mut self, sector: u64, into: &mut [u8; 512])
-        requires { sector < (device_of self.old).sectors }
-        ensures value { into.new ≡ durable_value sector (device_of self.old) }
-        ensures unmoved { device_of self.new ≡ device_of self.old }
+    /// Makes entry `k` of the cache durable, the oldest being entry 0, and lets go the older ones of its sector. No
+    /// guest sees it. `Nothing` comes exactly where there is no such entry.
+    pub fn destage(&mut self, k: u32) -> Result<Stepped, StoreFault>
+        ensures cause { Counted (faults_of self.old) (faults_of self.new) result }
+        ensures rest { rest_of self.new ≡ rest_of self.old }
+        ensures count { count_of self.new ≡ count_of self.old }
+        ensures after { OnOk result (IfTold self.old self.new ((memory : List ℕ) →
+            physical_of self.new memory ≡ physical_destaged k (physical_of self.old memory))) }
+        ensures answer { IfOk result (λ stepped. stepped
+            ≡ stepped_if (is_some (slice_get (physical_of self.old []).kept.cache.entries k))) }
+        ensures unmoved { result ≡ Ok Stepped.Nothing → (memory : List ℕ) →
+            physical_of self.new memory ≡ physical_of self.old memory }
+        ensures store { result ≡ Ok Stepped.Nothing → store_of self.new ≡ store_of self.old }
     {
-        let at = sector as usize * 512;
-        into.copy_from_slice(&self.bytes[at..at + 512]);
+        self.sectors.destage(k)
     }
 
     // A word of the block.
@@ -86,9 +119,10 @@ impl Drive {
     pub(crate) fn push_word(&mut self, w: u16, phase: Phase)
         requires room { self.old.words < 256 }
         requires lawful { IsLawfulState (record self.old.file { phase = phase }) self.old.bus
-            (self.old.words + 1) self.old.sectors }
-        ensures { let d = device_of self.old in
+            (self.old.words + 1) (count_of self.old) }
+        ensures after { let d = device_of self.old in
             device_of self.new ≡ with_phase phase (record d { block = d.block ++ w ∷ [] }) }
+        ensures sectors { self.new.sectors ≡ self.old.sectors }
     {
         self.block[self.words as usize] = w;
         self.words += 1;
@@ -97,8 +131,11 @@ impl Drive {
 
     // Puts these registers in place. A rise of the line shows in the bus master.
     pub(crate) fn put_file(&mut self, file: TaskFile)
-        requires { IsLawfulState file self.old.bus self.old.words self.old.sectors }
-        ensures { device_of self.new ≡ with_file file (device_of self.old) }
+        requires { IsLawfulState file self.old.bus self.old.words (count_of self.old) }
+        ensures device { device_of self.new ≡ with_file file (device_of self.old) }
+        ensures after { (memory : List ℕ) → physical_of self.new memory
+            ≡ worked leaves (with_registers file) (physical_of self.old memory) }
+        ensures sectors { self.new.sectors ≡ self.old.sectors }
     {
         self.bus.note_line(self.file.line(), file.line());
         self.file = file;
@@ -108,9 +145,11 @@ impl Drive {
     #[tactic(auto, using(crate::proofs::Blocks::length_front))]
     pub(crate) fn put_block(&mut self, file: TaskFile, block: [u16; 256], words: u16)
         requires room { words ≤ 256 }
-        requires lawful { IsLawfulState file self.old.bus words self.old.sectors }
-        ensures { let d = device_of self.old in
-            device_of self.new ≡ with_file file (record d { block = block_of block words }) }
+        requires lawful { IsLawfulState file self.old.bus words (count_of self.old) }
+        ensures after { (memory : List ℕ) → physical_of self.new memory
+            ≡ worked leaves (λ p. with_registers file (with_block (block_of block words) p))
+            (physical_of self.old memory) }
+        ensures sectors { self.new.sectors ≡ self.old.sectors }
     {
         self.bus.note_line(self.file.line(), file.line());
         self.file = file;

@@ -1,13 +1,14 @@
-//! A drive over one vector of bytes: a device with its sectors, which makes a step at a time.
+//! A drive over any store: a device with its sectors behind a write cache, which makes a step at a time.
 //!
-//! Start with `drive` for the type, then `steps` for what it does of its own and `ports` for the guest's accesses;
-//! `identify` has the words of IDENTIFY DEVICE, and `words` turns sectors into words and back. The drive has no cache:
-//! each value that is written is durable at once (`specs/Durable.antt`). `specs/Drive.antt` says which device a drive
-//! means; what an access and a step do to a device is defined in `ata_taskfile` and `plain_drive`, and `docs/drive.md`
-//! has the same as tables.
+//! Start with `drive` for the type, then `steps` for what it does of its own and `ports` for the guest's accesses.
+//! `cached_store` has the sectors: a store, and the 64 values at most that were written and aren't durable yet.
+//! `identify` has the words of IDENTIFY DEVICE, and `words` turns sectors into words and back. `specs/Drive.antt` says
+//! which physical drive a drive means; what an access, a step, a destage and a cut do to that is defined in
+//! `ata_taskfile` and `plain_drive`, and `docs/drive.md` has the same as tables.
 
 #![tactic(auto)]
 
+mod cached_store;
 mod drive;
 mod identify;
 mod ports;

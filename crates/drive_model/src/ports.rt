@@ -5,19 +5,20 @@ ghost use Rattle.std.proofs.Common.{subst, sym, ℕ};
 ghost use Rattle.ata_taskfile.specs.TaskFile.{is_of_bus};
 ghost use Rattle.ata_taskfile.specs.Device.{after_write8};
 ghost use Rattle.ata_taskfile.specs.Lawful.{IsLawfulState};
-ghost use Rattle.drive_model.specs.Drive.{device_of};
+ghost use Rattle.drive_model.specs.Drive.{Behind, behind, count_of, device_of};
 
 use crate::Drive;
 use ata_command::read_request;
 use ata_taskfile::registers::BLOCK_WORDS;
 use ata_taskfile::{Phase, Ports, Reg, Taken, Wrote};
+use drive_store::Store;
 
-impl Ports for Drive {
-    ghost Rest = { Unit {0} };
+impl<S: Store> Ports for Drive<S> {
+    ghost Rest = { Behind S };
 
     ghost device = { device_of };
 
-    ghost rest = { λ d. tt };
+    ghost rest = { behind };
 
     fn read8(&mut self, reg: Reg) -> u8 {
         if reg.is_of_bus() {
@@ -78,16 +79,17 @@ impl Ports for Drive {
         self.bus.walk.is_some()
     }
 
-    ghost lawful = { λ d. let P : ℕ → Type 0 = λ n. IsLawfulState d.file d.bus n d.sectors in
+    ghost lawful = { λ d. let P : ℕ → Type 0 = λ n. IsLawfulState d.file d.bus n (count_of d) in
         subst P (sym d.counted) d.lawful };
 }
 
-impl Drive {
+impl<S: Store> Drive<S> {
     // Writes a register of the task file.
     #[tactic(auto, using(ata_taskfile::proofs::Lawfulness::stored_lawful, ata_taskfile::proofs::Lawfulness::command_lawful, ata_taskfile::proofs::Lawfulness::reset_lawful, ata_taskfile::proofs::Ends::bus_in_reset_lawful))]
     fn write_file(&mut self, reg: Reg, v: u8)
         requires { is_of_bus reg ≡ false }
-        ensures { device_of self.new ≡ after_write8 reg v (device_of self.old) }
+        ensures after { device_of self.new ≡ after_write8 reg v (device_of self.old) }
+        ensures sectors { self.new.sectors ≡ self.old.sectors }
     {
         let phase = self.file.phase;
         let mut file = self.file;
@@ -95,7 +97,10 @@ impl Drive {
             Wrote::Ignored => {}
             Wrote::Stored => self.put_file(file),
             Wrote::Command(byte) => {
-                file.phase = Phase::Busy(Taken::of(read_request(&file, byte, self.sectors)), 0);
+                file.phase = Phase::Busy(
+                    Taken::of(read_request(&file, byte, self.sectors.store.sectors())),
+                    0,
+                );
                 self.put_file(file);
             }
             Wrote::ResetBegun => {

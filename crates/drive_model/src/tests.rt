@@ -6,23 +6,27 @@ ghost use Rattle.drive_model.specs.Drive.{device_of};
 use crate::Drive;
 use crate::identify::identity;
 use ata_taskfile::{Access, Answer, Ports, Reg, Step, Stepped, perform};
+use bm_dma::GuestMemory;
+use drive_store::{MemoryStore, Store};
 use std::alloc::{AllocError, Global};
 use std::test::Fail;
 
 // Sector 0 is all 0; sector 1 begins with 34h 12h and ends with CDh ABh.
-fn two_sectors(alloc: Global) -> Result<Drive, AllocError>
+fn two_sectors(alloc: Global) -> Result<Drive<MemoryStore>, AllocError>
     ensures { IfOk result (λ d. (device_of d).sectors ≡ 2) }
 {
-    let mut bytes = [0; 1024];
-    bytes[512] = 0x34;
-    bytes[513] = 0x12;
-    bytes[1022] = 0xcd;
-    bytes[1023] = 0xab;
-    Drive::load(alloc, &bytes)
+    let mut bytes = [0; 512];
+    bytes[0] = 0x34;
+    bytes[1] = 0x12;
+    bytes[510] = 0xcd;
+    bytes[511] = 0xab;
+    let mut store = MemoryStore::new(alloc, 2)?;
+    let _never_fails = store.set(1, &bytes);
+    Drive::new(alloc, store)
 }
 
 // READ SECTOR(S), of up to 255 sectors.
-fn ask(drive: &mut Drive, first: u8, count: u8) {
+fn ask(drive: &mut Drive<MemoryStore>, first: u8, count: u8) {
     drive.write8(Reg::Device, 0x40);
     drive.write8(Reg::Count, count);
     drive.write8(Reg::Low, first);
@@ -34,15 +38,16 @@ fn ask(drive: &mut Drive, first: u8, count: u8) {
 #[test]
 fn a_sector_is_read_by_words(rt: HostRuntime) -> Result<(), Fail> {
     let mut drive = two_sectors(rt.alloc())?;
+    let mut memory = GuestMemory::new(rt.alloc(), 16)?;
     assert_eq!(rt; drive.read8(Reg::Status), 0x80);
-    assert_eq!(rt; drive.step(Step::Good), Stepped::Changed);
+    assert_eq!(rt; drive.step(Step::Good, &mut memory), Ok(Stepped::Changed));
     assert_eq!(rt; drive.read8(Reg::Status), 0x50);
-    assert_eq!(rt; drive.step(Step::Good), Stepped::Nothing);
+    assert_eq!(rt; drive.step(Step::Good, &mut memory), Ok(Stepped::Nothing));
 
     ask(&mut drive, 1, 1);
     assert_eq!(rt; drive.read8(Reg::Status), 0x80);
     assert_eq!(rt; drive.read_word(), 0xffff);
-    assert_eq!(rt; drive.step(Step::Good), Stepped::Changed);
+    assert_eq!(rt; drive.step(Step::Good, &mut memory), Ok(Stepped::Changed));
     assert!(rt; drive.line());
     assert_eq!(rt; drive.read8(Reg::Status), 0x58);
     assert!(rt; !drive.line());
@@ -63,14 +68,15 @@ fn a_sector_is_read_by_words(rt: HostRuntime) -> Result<(), Fail> {
 #[test]
 fn a_bad_step_shows_the_sector(rt: HostRuntime) -> Result<(), Fail> {
     let mut drive = two_sectors(rt.alloc())?;
-    drive.step(Step::Good);
+    let mut memory = GuestMemory::new(rt.alloc(), 16)?;
+    let _changed = drive.step(Step::Good, &mut memory);
     ask(&mut drive, 0, 2);
-    drive.step(Step::Good);
+    let _changed = drive.step(Step::Good, &mut memory);
     for _ in 0..256usize {
         drive.read_word();
     }
     assert_eq!(rt; drive.read8(Reg::Status), 0x80);
-    assert_eq!(rt; drive.step(Step::Bad), Stepped::Changed);
+    assert_eq!(rt; drive.step(Step::Bad, &mut memory), Ok(Stepped::Changed));
     assert!(rt; drive.line());
     let registers = [
         (Reg::Alternate, 0x51),
@@ -84,21 +90,22 @@ fn a_bad_step_shows_the_sector(rt: HostRuntime) -> Result<(), Fail> {
     for (reg, want) in registers {
         assert_eq!(rt; drive.read8(reg), want, "{reg:?}");
     }
-    assert_eq!(rt; drive.step(Step::Bad), Stepped::Nothing);
+    assert_eq!(rt; drive.step(Step::Bad, &mut memory), Ok(Stepped::Nothing));
     Ok(())
 }
 
 #[test]
 fn a_reset_ends_the_command(rt: HostRuntime) -> Result<(), Fail> {
     let mut drive = two_sectors(rt.alloc())?;
-    drive.step(Step::Good);
+    let mut memory = GuestMemory::new(rt.alloc(), 16)?;
+    let _changed = drive.step(Step::Good, &mut memory);
     ask(&mut drive, 0, 1);
     drive.write8(Reg::Alternate, 0x04);
-    assert_eq!(rt; drive.step(Step::Good), Stepped::Nothing);
-    assert_eq!(rt; drive.step(Step::Bad), Stepped::Nothing);
+    assert_eq!(rt; drive.step(Step::Good, &mut memory), Ok(Stepped::Nothing));
+    assert_eq!(rt; drive.step(Step::Bad, &mut memory), Ok(Stepped::Nothing));
     drive.write8(Reg::Alternate, 0);
     assert_eq!(rt; drive.read8(Reg::Alternate), 0x80);
-    assert_eq!(rt; drive.step(Step::Good), Stepped::Changed);
+    assert_eq!(rt; drive.step(Step::Good, &mut memory), Ok(Stepped::Changed));
     assert!(rt; !drive.line());
     for (reg, want) in [
         (Reg::Status, 0x50),
@@ -116,7 +123,7 @@ fn a_reset_ends_the_command(rt: HostRuntime) -> Result<(), Fail> {
 fn a_durable_value_is_copied(rt: HostRuntime) -> Result<(), Fail> {
     let mut drive = two_sectors(rt.alloc())?;
     let mut sector = [0; 512];
-    drive.durable(1, &mut sector);
+    assert_eq!(rt; drive.durable(1, &mut sector), Ok(()));
     assert_eq!(rt; [sector[0], sector[511]], [0x34, 0xab]);
     assert!(rt; !drive.file().failed);
     Ok(())
@@ -156,10 +163,11 @@ fn each_rise_of_the_line_shows(rt: HostRuntime) -> Result<(), Fail> {
     use Access::{Line, Read8, Write8, WriteWord};
 
     let mut drive = two_sectors(rt.alloc())?;
-    drive.step(Step::Good);
+    let mut memory = GuestMemory::new(rt.alloc(), 16)?;
+    let _changed = drive.step(Step::Good, &mut memory);
     drive.write8(Reg::Alternate, 0x02);
     ask(&mut drive, 0, 1);
-    drive.step(Step::Good);
+    let _changed = drive.step(Step::Good, &mut memory);
 
     // The interrupt pends below nIEN. Written as 0 it lets the line rise, and again after it was 1.
     let accesses = [
@@ -190,7 +198,8 @@ fn each_rise_of_the_line_shows(rt: HostRuntime) -> Result<(), Fail> {
 #[test]
 fn a_reset_ends_the_walk_of_its_command(rt: HostRuntime) -> Result<(), Fail> {
     let mut drive = two_sectors(rt.alloc())?;
-    drive.step(Step::Good);
+    let mut memory = GuestMemory::new(rt.alloc(), 16)?;
+    let _changed = drive.step(Step::Good, &mut memory);
     drive.write8(Reg::BusCommand, 0x01);
 
     // READ SECTOR(S) moves nothing by the bus master, READ DMA does.
@@ -202,7 +211,7 @@ fn a_reset_ends_the_walk_of_its_command(rt: HostRuntime) -> Result<(), Fail> {
         assert_eq!(rt; drive.walking(), walks, "{command:x}");
         assert_eq!(rt; drive.read8(Reg::BusStatus), 0x01, "{command:x}");
         drive.write8(Reg::Alternate, 0x00);
-        drive.step(Step::Good);
+        let _changed = drive.step(Step::Good, &mut memory);
         assert_eq!(rt; drive.read8(Reg::Status), 0x50, "{command:x}");
     }
     Ok(())
@@ -212,9 +221,10 @@ fn a_reset_ends_the_walk_of_its_command(rt: HostRuntime) -> Result<(), Fail> {
 #[test]
 fn words_of_identify(rt: HostRuntime) -> Result<(), Fail> {
     let mut drive = two_sectors(rt.alloc())?;
-    drive.step(Step::Good);
+    let mut memory = GuestMemory::new(rt.alloc(), 16)?;
+    let _changed = drive.step(Step::Good, &mut memory);
     drive.write8(Reg::Status, 0xec);
-    drive.step(Step::Good);
+    let _changed = drive.step(Step::Good, &mut memory);
     for place in 0..256u16 {
         assert_eq!(rt; drive.read_word(), word_wanted(place), "word {place}");
     }

@@ -1,6 +1,6 @@
 -- The steps of an order leave a lawful device lawful.
-use Rattle.std.proofs.Common.{◌≡◌, ◌≢◌, ℕ, Bool, true, false, ◌+◌, ◌-◌, ◌<◌, ◌≤◌, refl, arith}
-use Rattle.std.specs.Prelude.{if◌then◌else◌}
+use Rattle.std.proofs.Common.{◌≡◌, ◌≢◌, ℕ, Bool, true, false, ◌+◌, ◌-◌, ◌<◌, ◌≤◌, List, length, Option, Some, None, refl, subst, arith}
+use Rattle.std.specs.Prelude.{if◌then◌else◌, ◌==◌}
 use Rattle.ata_taskfile.specs.declared.Phase.{Phase}
 use Rattle.ata_taskfile.specs.declared.Phase.TheVariants.{Idle, Busy, Ready}
 use Rattle.ata_taskfile.specs.declared.Request.{Request}
@@ -12,7 +12,9 @@ use Rattle.ata_taskfile.specs.Bus.{walk_ended}
 use Rattle.ata_taskfile.specs.Order.{has_range}
 use Rattle.ata_taskfile.specs.Data.{gives_words, takes_words, moves_by_bus}
 use Rattle.ata_taskfile.specs.Lawful.{AreLawful, IsLawfulState}
-use Rattle.plain_drive.specs.Step.{failure_shown}
+use Rattle.bm_dma.specs.Run.{run_of, sector_places, is_tables_end, found_as}
+use Rattle.bm_dma.specs.Move.{moved_as, outcome, outcome_in, bus_after, bus_next, bus_in}
+use Rattle.plain_drive.specs.Step.{failure_shown, position_after}
 
 -- a command that ends well
 ended-lawful : (phase : Phase) (order : Request) (done c device error : ℕ) (failed pending : Bool) (b : Bus) → phase ≡ Busy (Good order) done
@@ -50,6 +52,31 @@ transferred_lawful f b words n order done e l = record {
   registers = transferred-lawful f.phase order done f.control f.device f.error f.failed f.pending b e l.registers;
   within = omega arith;
   block = refl;
+}
+
+-- a sector that the bus master has tried
+found-lawful : (whole last ended : Bool) (phase : Phase) (order : Request) (done c device error moved places : ℕ) (failed pending : Bool) (b : Bus)
+    → phase ≡ Busy (Good order) done → moves_by_bus order.form ≡ true → done < order.count → b.walk ≡ Some moved → AreLawful c device error failed pending phase b
+    → AreLawful c device error failed pending (Busy (Good order) (position_after (moved_as (found_as whole last ended) places) done)) (bus_after (found_as whole last ended) moved b)
+found-lawful whole last ended phase order done c device error moved places failed pending b e moves more walks l = grind arith
+
+walked-lawful : (walk : Option ℕ) (memory : List ℕ) (phase : Phase) (order : Request) (done c device error : ℕ) (failed pending : Bool) (b : Bus) → b.walk ≡ walk
+    → phase ≡ Busy (Good order) done → moves_by_bus order.form ≡ true → done < order.count → AreLawful c device error failed pending phase b
+    → AreLawful c device error failed pending (Busy (Good order) (position_after (outcome_in walk b.pointer memory) done)) (bus_in walk memory b)
+walked-lawful None memory phase order done c device error failed pending b walks e moves more l =
+    subst (λ x. AreLawful c device error failed pending x b) e l
+walked-lawful (Some moved) memory phase order done c device error failed pending b walks e moves more l =
+    let run = run_of b.pointer memory in
+    let places = length (sector_places moved run) in
+    found-lawful (places == 512) (is_tables_end moved run) run.ended phase order done c device error moved places failed pending b e moves more walks l
+
+pub walked_lawful : (f : TaskFile) (b : Bus) (words n : ℕ) (order : Request) (done : ℕ) (memory : List ℕ) → f.phase ≡ Busy (Good order) done
+    → moves_by_bus order.form ≡ true → done < order.count → IsLawfulState f b words n
+    → IsLawfulState (record f { phase = Busy (Good order) (position_after (outcome b memory) done) }) (bus_next b memory) words n
+walked_lawful f b words n order done memory e moves more l = record {
+  registers = walked-lawful b.walk memory f.phase order done f.control f.device f.error f.failed f.pending b refl e moves more l.registers;
+  within = let h = l.within in rw e at h;
+  block = grind arith;
 }
 
 -- a block that waits in Data

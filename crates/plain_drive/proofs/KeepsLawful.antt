@@ -1,5 +1,5 @@
 -- Every step leaves a lawful device lawful, where its sectors are whole.
-use Rattle.std.proofs.Common.{◌≡◌, ℕ, Bool, true, false, ◌+◌, ◌-◌, List, [], ◌∷◌, zero, suc, length, refl, ap, arith}
+use Rattle.std.proofs.Common.{◌≡◌, ℕ, Bool, true, false, ◌+◌, List, [], ◌∷◌, zero, suc, length, refl, ap, arith}
 use Rattle.std.specs.Prelude.{if◌then◌else◌, nat_lt, ◌==◌}
 use Rattle.ata_taskfile.specs.declared.Kind.{Kind}
 use Rattle.ata_taskfile.specs.declared.Kind.TheVariants as kind
@@ -20,11 +20,11 @@ use Rattle.ata_taskfile.specs.Device.{Device, with_bus}
 use Rattle.ata_taskfile.specs.Lawful.{IsLawfulState, IsLawful}
 use Rattle.ata_taskfile.proofs.Lawfulness.{raised_lawful}
 use Rattle.ata_taskfile.proofs.Ends.{is_due, reset_ended_lawful, refused_lawful}
-use Rattle.plain_drive.specs.Plain.{Plain, with_registers, with_block, with_cells, sector_value, words_of}
+use Rattle.plain_drive.specs.Plain.{Plain, with_registers, with_block, sector_value, words_of}
 use Rattle.plain_drive.specs.Laws.{HasWholeSectors}
-use Rattle.plain_drive.specs.Step.{words_due, offered, ended, cells_after, next_wanted, first_wanted, block_written, without_walk, proceeded, stepped, failed_step, failure_shown, failure_bit, step_made}
+use Rattle.plain_drive.specs.Step.{words_due, offered, ended, next_wanted, first_wanted, walked, sector_given, transferred, proceeded, stepped, failed_step, failure_shown, failure_bit, step_made}
 use Rattle.plain_drive.proofs.Outcomes.{identity-length}
-use Rattle.plain_drive.proofs.Ends.{ended_lawful, transferred_lawful, offered_lawful, wanted_lawful, first_wanted_lawful, given_up_lawful}
+use Rattle.plain_drive.proofs.Ends.{ended_lawful, transferred_lawful, walked_lawful, offered_lawful, wanted_lawful, first_wanted_lawful, given_up_lawful}
 
 -- other registers, which are lawful
 registers_lawful : (f : TaskFile) (p : Plain) → IsLawfulState f p.device.bus (length p.device.block) p.device.sectors → IsLawful (with_registers f p).device
@@ -53,30 +53,39 @@ module _ (order : Request) (done : ℕ) (p : Plain) (e : p.device.file.phase ≡
       let many = due-length order.kind (order.first + done) p.device (whole (order.first + done) (is_due p.device.file p.device.bus (length p.device.block) p.device.sectors order done e gives l)) in
       registers_lawful (announced (Ready (Good order) done 256) p.device.file) (with_block block p) (rw many (offered_lawful p.device.file p.device.bus (length p.device.block) p.device.sectors order done e gives l))
 
-  next-lawful : takes_words order.form ≡ true → (s : ℕ) → (more : Bool) → nat_lt done order.count ≡ more
-      → IsLawful (if more then offered order done [] (block_written s p) else ended (block_written s p)).device
-  next-lawful takes s true is = registers_lawful (announced (Ready (Good order) done 256) p.device.file) (with_block [] (block_written s p)) (wanted_lawful p.device.file p.device.bus (length p.device.block) p.device.sectors order done e takes (grind arith) l)
-  next-lawful takes s false is = registers_lawful (announced Idle p.device.file) (block_written s p) (ended_lawful p.device.file p.device.bus (length p.device.block) p.device.sectors order done e (grind arith) l)
+  next-lawful : takes_words order.form ≡ true → (more : Bool) → nat_lt done order.count ≡ more
+      → IsLawful (if more then offered order done [] p else ended p).device
+  next-lawful takes true is = registers_lawful (announced (Ready (Good order) done 256) p.device.file) (with_block [] p) (wanted_lawful p.device.file p.device.bus (length p.device.block) p.device.sectors order done e takes (grind arith) l)
+  next-lawful takes false is = registers_lawful (announced Idle p.device.file) p (ended_lawful p.device.file p.device.bus (length p.device.block) p.device.sectors order done e (grind arith) l)
 
   received-lawful : takes_words order.form ≡ true → (first : Bool) → (done == 0) ≡ first
-      → IsLawful (if first then first_wanted order p else next_wanted order done (block_written (order.first + done - 1) p)).device
+      → IsLawful (if first then first_wanted order p else next_wanted order done p).device
   received-lawful takes true is = registers_lawful (record p.device.file { phase = Ready (Good order) 0 256 }) (with_block [] p) (first_wanted_lawful p.device.file p.device.bus (length p.device.block) p.device.sectors order done e (grind arith) takes l)
-  received-lawful takes false is = next-lawful takes (order.first + done - 1) (nat_lt done order.count) refl
+  received-lawful takes false is = next-lawful takes (nat_lt done order.count) refl
 
   moved-lawful : (moves : Bool) → moves ≡ true → IsLawful (ended (if moves then record p { device = with_bus (walk_ended p.device.bus) p.device } else p)).device
   moved-lawful true is = registers_lawful (announced Idle p.device.file) (record p { device = with_bus (walk_ended p.device.bus) p.device }) (transferred_lawful p.device.file p.device.bus (length p.device.block) p.device.sectors order done e l)
   moved-lawful false is = absurd cc
 
-  transferred-lawful : moves_by_bus order.form ≡ true → (more : Bool) → IsLawful (if more then p else ended (without_walk order.form p)).device
-  transferred-lawful moves true = l
-  transferred-lawful moves false = moved-lawful (moves_by_bus order.form) moves
+  sector-lawful : moves_by_bus order.form ≡ true → nat_lt done order.count ≡ true → IsLawful (walked order done p).device
+  sector-lawful moves more = walked_lawful p.device.file p.device.bus (length p.device.block) p.device.sectors order done p.memory e moves (grind arith) l
+
+  given-lawful : moves_by_bus order.form ≡ true → (more : Bool) → nat_lt done order.count ≡ more
+      → IsLawful (if more then sector_given order done p else transferred order p).device
+  given-lawful moves true is = sector-lawful moves is
+  given-lawful moves false is = moved-lawful (moves_by_bus order.form) moves
+
+  fetched-lawful : moves_by_bus order.form ≡ true → (more : Bool) → nat_lt done order.count ≡ more
+      → IsLawful (if more then walked order done p else transferred order p).device
+  fetched-lawful moves true is = sector-lawful moves is
+  fetched-lawful moves false is = moved-lawful (moves_by_bus order.form) moves
 
   proceeded-lawful : (form : Form) → order.form ≡ form → HasWholeSectors p.device → IsLawful (proceeded form order done p).device
   proceeded-lawful PioIn is whole = loaded-lawful (rw is refl) whole
   proceeded-lawful PioOut is whole = received-lawful (rw is refl) (done == 0) refl
-  proceeded-lawful DmaIn is whole = transferred-lawful (rw is refl) (nat_lt done order.count)
-  proceeded-lawful DmaOut is whole = transferred-lawful (rw is refl) (nat_lt done order.count)
-  proceeded-lawful NoMove is whole = registers_lawful (announced Idle p.device.file) (with_cells (cells_after order.kind p.device.cells) p) (ended_lawful p.device.file p.device.bus (length p.device.block) p.device.sectors order done e (rw is refl) l)
+  proceeded-lawful DmaIn is whole = given-lawful (rw is refl) (nat_lt done order.count) refl
+  proceeded-lawful DmaOut is whole = fetched-lawful (rw is refl) (nat_lt done order.count) refl
+  proceeded-lawful NoMove is whole = registers_lawful (announced Idle p.device.file) p (ended_lawful p.device.file p.device.bus (length p.device.block) p.device.sectors order done e (rw is refl) l)
 
   failed-lawful : (moves : Bool) → moves_by_bus order.form ≡ moves
       → IsLawful (with_registers (ended_failed (failure_bit order.kind) (failure_shown order done p.device.file)) (if moves then record p { device = with_bus (walk_ended p.device.bus) p.device } else p)).device

@@ -1,7 +1,10 @@
 mod Outcomes
 mod Words
 pub mod Steps
-pub mod Stores
+pub mod Sectors
 pub mod Ends
-pub mod Blocks
-mod KeepsLawful
+pub mod KeepsLawful
+pub mod CellEnds
+pub mod Shared
+pub mod Standing
+pub mod Runs

@@ -58,10 +58,6 @@ with_block block p = record p { device = record p.device { block = block } }
 abbrev pub sector_value : ℕ → Device → List ℕ
 sector_value s d = current (slice_index_or d.cells s (settled []))
 
--- the durable value of a sector
-abbrev pub durable_value : ℕ → Device → List ℕ
-durable_value s d = (slice_index_or d.cells s (settled [])).durable
-
 -- bytes in words of 16 bits, the even byte low (ATA/ATAPI-6, Data register)
 abbrev pub words_of : List ℕ → List ℕ
 words_of [] = []
@@ -76,13 +72,3 @@ sectors_in (suc n) bytes = take 512 bytes ∷ sectors_in n (drop 512 bytes)
 -- a drive with this memory
 abbrev pub plain : Device → List ℕ → Plain
 plain device memory = record { device = device; memory = memory }
-
--- the durable bytes of a store, one sector after the other
-abbrev pub durable_bytes : List Cell → List ℕ
-durable_bytes [] = []
-durable_bytes (cell ∷ cells) = cell.durable ++ durable_bytes cells
-
--- each durable value has the 512 bytes of a sector
-abbrev pub HasWholeCells : List Cell → Type 0
-HasWholeCells [] = Unit {0}
-HasWholeCells (cell ∷ cells) = (length cell.durable ≡ 512) × HasWholeCells cells

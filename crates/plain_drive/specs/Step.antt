@@ -1,5 +1,5 @@
 -- The steps of a plain drive, by the phase of the command in hand.
-use Rattle.std.specs.Prelude.{ℕ, Bool, true, false, not, ◌&&◌, ◌+◌, ◌-◌, ◌==◌, if◌then◌else◌, nat_lt, List, []}
+use Rattle.std.specs.Prelude.{ℕ, Bool, true, false, not, ◌||◌, ◌+◌, ◌-◌, ◌==◌, if◌then◌else◌, nat_lt, List, []}
 use Rattle.ata_taskfile.specs.declared.Kind.{Kind}
 use Rattle.ata_taskfile.specs.declared.Kind.TheVariants as kind
 use Rattle.ata_taskfile.specs.declared.Form.{Form}
@@ -17,11 +17,14 @@ use Rattle.ata_taskfile.specs.declared.task_file.TaskFile.{TaskFile}
 use Rattle.ata_taskfile.specs.Bus.{walk_ended}
 use Rattle.ata_taskfile.specs.TaskFile.{holds_reset, reset_ended, refused, announced, ended_failed, addressed}
 use Rattle.ata_taskfile.specs.Order.{has_range}
-use Rattle.ata_taskfile.specs.Data.{takes_words, moves_by_bus}
-use Rattle.ata_taskfile.specs.Device.{Device, Cell, with_bus}
-use Rattle.plain_drive.specs.Plain.{Plain, with_registers, with_cells, with_block, sector_value, words_of, appended, all_flushed}
-use Rattle.plain_drive.specs.Words.{bytes_of}
+use Rattle.ata_taskfile.specs.Data.{moves_by_bus}
+use Rattle.ata_taskfile.specs.Device.{Device, with_bus, with_phase, is_walking}
+use Rattle.bm_dma.specs.declared.moves.Moved.{Moved}
+use Rattle.bm_dma.specs.declared.moves.Moved.TheVariants.{Whole, Short, Outside, Waiting}
+use Rattle.bm_dma.specs.Move.{outcome, bus_next, places_next, memory_after}
+use Rattle.plain_drive.specs.Plain.{Plain, with_registers, with_cells, with_block, sector_value, words_of}
 use Rattle.plain_drive.specs.Identify.{identity}
+use Rattle.plain_drive.specs.Change.{cells_after, change_made}
 
 -- a command that ends well: Idle, and an interrupt pends; Count and the LBA registers stay
 abbrev pub ended : Plain → Plain
@@ -48,54 +51,56 @@ loaded order done p = offered order done (words_due order.kind (order.first + do
 abbrev pub first_wanted : Request → Plain → Plain
 first_wanted order p = with_registers (record p.device.file { phase = Ready (Good order) 0 256 }) (with_block [] p)
 
--- the block that came is the newest value of its sector
-abbrev pub block_written : ℕ → Plain → Plain
-block_written s p = with_cells (appended s (bytes_of p.device.block) p.device.cells) p
-
 -- after a block was written: the next one is wanted, or the command has ended, and an interrupt pends (ATA/ATAPI-6, PIO data-out)
 abbrev pub next_wanted : Request → ℕ → Plain → Plain
 next_wanted order done p = if nat_lt done order.count then offered order done [] p else ended p
 
--- a command that takes words: its first block is wanted, or the block that came is written (ATA/ATAPI-6, PIO data-out)
+-- a command that takes words: its first block is wanted, or the block that came is written and the next one is (ATA/ATAPI-6, PIO data-out)
 abbrev pub received : Request → ℕ → Plain → Plain
-received order done p = if done == 0 then first_wanted order p else next_wanted order done (block_written (order.first + done - 1) p)
+received order done p = if done == 0 then first_wanted order p else next_wanted order done p
 
 -- the drive without the walk of its command, where the bus master moves that; active stays (own)
 abbrev pub without_walk : Form → Plain → Plain
 without_walk form p = if moves_by_bus form then record p { device = with_bus (walk_ended p.device.bus) p.device } else p
 
--- a command that the bus master moves: below its count it waits for a walk, and at its count it ends (ATA/ATAPI-6, DMA; what a walk moves isn't built)
-abbrev pub transferred : Request → ℕ → Plain → Plain
-transferred order done p = if nat_lt done order.count then p else ended (without_walk order.form p)
+-- one sector further after a whole one has moved; else the position stays (own)
+abbrev pub position_after : Moved → ℕ → ℕ
+position_after Whole done = done + 1
+position_after (Short n) done = done
+position_after Outside done = done
+position_after Waiting done = done
 
--- the store after a command without data: a flush makes every current value durable (ATA/ATAPI-6, FLUSH CACHE)
-abbrev pub cells_after : Kind → List Cell → List Cell
-cells_after kind.Flush cells = all_flushed cells
-cells_after kind.Read cells = cells
-cells_after kind.Write cells = cells
-cells_after kind.Verify cells = cells
-cells_after kind.Identify cells = cells
-cells_after kind.Features cells = cells
+-- the bus master has tried the next sector of its walk, if one is running, and the command stands where that leaves it (Bus Master IDE 1.0, data transfer)
+abbrev pub walked : Request → ℕ → Plain → Plain
+walked order done p = record p {
+  device = with_phase (Busy (Good order) (position_after (outcome p.device.bus p.memory) done)) (with_bus (bus_next p.device.bus p.memory) p.device);
+}
 
--- a good step of an order, one line for each way in which its data moves
+-- a sector of a read goes to memory, as far as the table names places for it
+abbrev pub sector_given : Request → ℕ → Plain → Plain
+sector_given order done p = record (walked order done p) {
+  memory = memory_after (outcome p.device.bus p.memory) (places_next p.device.bus p.memory) (sector_value (order.first + done) p.device) p.memory;
+}
+
+-- a command whose sectors have all moved ends well, with its walk (ATA/ATAPI-6, DMA)
+abbrev pub transferred : Request → Plain → Plain
+transferred order p = ended (without_walk order.form p)
+
+-- a good step of an order but for the sectors, one line for each way in which its data moves
 abbrev pub proceeded : Form → Request → ℕ → Plain → Plain
 proceeded PioIn order done p = loaded order done p
 proceeded PioOut order done p = received order done p
-proceeded DmaIn order done p = transferred order done p
-proceeded DmaOut order done p = transferred order done p
-proceeded NoMove order done p = ended (with_cells (cells_after order.kind p.device.cells) p)
+proceeded DmaIn order done p = if nat_lt done order.count then sector_given order done p else transferred order p
+proceeded DmaOut order done p = if nat_lt done order.count then walked order done p else transferred order p
+proceeded NoMove order done p = ended p
 
--- a good step in a phase; Idle and Ready wait for the guest, and Reset while SRST is 1
+-- a good step in a phase, but for the sectors; Idle and Ready wait for the guest, and Reset while SRST is 1
 abbrev pub stepped : Phase → Plain → Plain
 stepped Reset p = if holds_reset p.device.file then p else with_registers (reset_ended p.device.file) p
 stepped Idle p = p
 stepped (Ready taken done left) p = p
 stepped (Busy (Bad reason) done) p = with_registers (refused reason p.device.file) p
 stepped (Busy (Good order) done) p = proceeded order.form order done p
-
--- a step that goes well
-abbrev pub good_step : Plain → Plain
-good_step p = stepped p.device.file.phase p
 
 -- the Error byte of an order that fails: a sector can't be had, or the command is given up (ATA/ATAPI-6, Error register; own: which for which)
 abbrev pub failure_bit : Kind → ℕ
@@ -134,22 +139,30 @@ failed_step (Ready taken done left) p = p
 failed_step (Busy (Bad reason) done) p = with_registers (refused reason p.device.file) p
 failed_step (Busy (Good order) done) p = given_up order done p
 
+-- a step of either kind, but for the sectors
+abbrev pub stepped_by : Step → Plain → Plain
+stepped_by step.Good p = stepped p.device.file.phase p
+stepped_by step.Bad p = failed_step p.device.file.phase p
+
+-- a step of either kind: it goes well, or the work in hand fails
+abbrev pub step_made : Step → Plain → Plain
+step_made s p = with_cells (cells_after (change_made s p) p.device.cells) (stepped_by s p)
+
+-- a step that goes well
+abbrev pub good_step : Plain → Plain
+good_step p = step_made step.Good p
+
 -- a step at which the work in hand fails
 abbrev pub bad_step : Plain → Plain
-bad_step p = failed_step p.device.file.phase p
-
--- a step of either kind
-abbrev pub step_made : Step → Plain → Plain
-step_made step.Good p = good_step p
-step_made step.Bad p = bad_step p
+bad_step p = step_made step.Bad p
 
 -- a good step of an order has an effect, but for one that waits for a walk
-abbrev pub proceeds : Form → Request → ℕ → Bool
-proceeds PioIn order done = true
-proceeds PioOut order done = true
-proceeds DmaIn order done = not (nat_lt done order.count)
-proceeds DmaOut order done = not (nat_lt done order.count)
-proceeds NoMove order done = true
+abbrev pub proceeds : Form → Request → ℕ → Device → Bool
+proceeds PioIn order done d = true
+proceeds PioOut order done d = true
+proceeds DmaIn order done d = not (nat_lt done order.count) || is_walking d
+proceeds DmaOut order done d = not (nat_lt done order.count) || is_walking d
+proceeds NoMove order done d = true
 
 -- whether a step has an effect in a phase
 abbrev pub acts_in : Step → Phase → Plain → Bool
@@ -158,7 +171,7 @@ acts_in step.Bad Reset p = false
 acts_in s Idle p = false
 acts_in s (Ready taken done left) p = false
 acts_in s (Busy (Bad reason) done) p = true
-acts_in step.Good (Busy (Good order) done) p = proceeds order.form order done
+acts_in step.Good (Busy (Good order) done) p = proceeds order.form order done p.device
 acts_in step.Bad (Busy (Good order) done) p = true
 
 -- whether a step has an effect
@@ -169,11 +182,3 @@ acts s p = acts_in s p.device.file.phase p
 abbrev pub stepped_if : Bool → Stepped
 stepped_if true = Changed
 stepped_if false = Nothing
-
--- a block has come that the drive has still to write
-abbrev pub has_block : Phase → Bool
-has_block Reset = false
-has_block Idle = false
-has_block (Busy (Good order) done) = takes_words order.form && not (done == 0)
-has_block (Busy (Bad reason) done) = false
-has_block (Ready taken done left) = false

@@ -1,22 +1,28 @@
 //! The book of the drive: what a plain drive means.
 //!
 //! A plain drive is a device with the guest's memory, and knows no cache, bitmap, frame or lease. Start with
-//! `specs/Plain.antt` for its state, then `specs/Step.antt` for what a good and a bad step do, and
-//! `specs/Cut.antt` for what a power cut may leave. Each access is a definition of `ata_taskfile`. The functions
-//! below are laws that show what the definitions mean; `docs/drive.md` has the same as tables.
+//! `specs/Plain.antt` for its state, then `specs/Step.antt` for what a good and a bad step do,
+//! `specs/Change.antt` for what they do to the sectors, and `specs/Cut.antt` for what a power cut may leave. Each
+//! access is a definition of `ata_taskfile`. `specs/Physical.antt` has a drive that keeps its sectors behind a
+//! write cache, and `specs/Runs.antt` its whole runs. The functions below are laws that show what the definitions
+//! mean; `docs/drive.md` has the same as tables.
 
 #![tactic(auto)]
 
 ghost use Rattle.std.specs.Prelude.{◌≡◌, ◌≢◌, ◌↔◌, ◌<◌, ℕ, List, [], map, length, slice_index_or, false};
+ghost use Rattle.ata_taskfile.specs.declared.Access.{Access};
 ghost use Rattle.ata_taskfile.specs.declared.Step.{Step as StepOf};
+ghost use Rattle.ata_taskfile.specs.Access.{accessed};
 ghost use Rattle.ata_taskfile.specs.Device.{Cell, Device};
 ghost use Rattle.ata_taskfile.specs.Lawful.{IsLawful};
 ghost use Rattle.plain_drive.specs.Plain.{Plain, stored, settled, current, appended, all_flushed};
-ghost use Rattle.plain_drive.specs.Cut.{IsOutcome};
+ghost use Rattle.plain_drive.specs.Cut.{IsOutcome, drive_at_power_on};
 ghost use Rattle.plain_drive.specs.Laws.{IsLoaded, IsAwaited, IsWritten, HasWholeSectors};
 ghost use Rattle.plain_drive.specs.Words.{words_read, after_written};
 ghost use Rattle.plain_drive.specs.Identify.{identity};
 ghost use Rattle.plain_drive.specs.Step.{step_made, bad_step, acts};
+ghost use Rattle.plain_drive.specs.Physical.{Physical, StandsFor, fresh, physical_at_power_on, physical_accessed, physical_step, physical_destaged, physical_cut};
+ghost use Rattle.plain_drive.specs.Runs.{Happening, HasPlainRun};
 
 /// A store without writes has one cut outcome, itself.
 pub fn one_outcome_without_writes()
@@ -73,4 +79,51 @@ pub fn a_bad_step_moves_no_sector()
 pub fn steps_keep_lawful()
     ensures { (step : StepOf) (p : Plain) → HasWholeSectors p.device → IsLawful p.device
         → IsLawful (step_made step p).device }
+{}
+
+/// A physical drive at power-on over these sectors stands for a plain one over them.
+pub fn a_fresh_drive_stands_for_a_plain_one()
+    ensures { (durable : List (List ℕ)) (room sectors : ℕ) (memory : List ℕ) →
+        StandsFor (physical_at_power_on (fresh room durable) sectors memory)
+        (drive_at_power_on durable sectors memory) }
+{}
+
+/// After an access a physical drive stands for the plain one after the same access.
+pub fn an_access_keeps_standing()
+    ensures { (access : Access) (physical : Physical) (p : Plain) → StandsFor physical p
+        → StandsFor (physical_accessed access physical)
+        (record p { device = accessed access p.device }) }
+{}
+
+/// After a step, good or failing, a physical drive stands for the plain one after the same step.
+pub fn a_step_keeps_standing()
+    ensures { (step : StepOf) (physical : Physical) (p : Plain) → StandsFor physical p
+        → StandsFor (physical_step step physical) (step_made step p) }
+{}
+
+/// After a destage a physical drive stands for the same plain one.
+pub fn a_destage_keeps_standing()
+    ensures { (n : ℕ) (physical : Physical) (p : Plain) → StandsFor physical p
+        → StandsFor (physical_destaged n physical) p }
+{}
+
+/// After a power cut a physical drive stands for a plain one over its durable sectors.
+pub fn a_cut_keeps_standing()
+    ensures { (memory : List ℕ) (physical : Physical) (p : Plain) → StandsFor physical p
+        → StandsFor (physical_cut memory physical)
+        (drive_at_power_on physical.kept.durable p.device.sectors memory) }
+{}
+
+/// The durable sectors of a physical drive are a cut outcome of the plain one for which it stands.
+pub fn durable_sectors_are_an_outcome()
+    ensures { (physical : Physical) (p : Plain) → StandsFor physical p
+        → IsOutcome p.device.cells physical.kept.durable }
+{}
+
+/// Whatever happens to a physical drive that stands for a plain one, the plain one has a run with the same
+/// answers that leads to one for which it stands then. After a cut that begins with the physical drive's durable
+/// sectors, which are a cut outcome. A destage is no part of that run.
+pub fn a_physical_drive_is_a_plain_one()
+    ensures { (happenings : List Happening) (physical : Physical) (p : Plain) → StandsFor physical p
+        → HasPlainRun happenings physical p }
 {}

@@ -35,6 +35,7 @@ abbrev pub answers_in : List Item → List ℕ → List (List ℕ)
 answers_in [] bytes = []
 answers_in (item.Answer ∷ items) bytes = bytes ∷ answers_in items bytes
 answers_in (item.Go n ∷ items) bytes = answers_in items bytes
+answers_in (item.Bad ∷ items) bytes = answers_in items bytes
 answers_in (item.Command byte first count ∷ items) bytes = answers_in items bytes
 
 -- the plan items: what the report says that the plain drive did
@@ -42,6 +43,7 @@ abbrev pub plan_in : List Item → List Item
 plan_in [] = []
 plan_in (item.Answer ∷ items) = plan_in items
 plan_in (item.Go n ∷ items) = item.Go n ∷ plan_in items
+plan_in (item.Bad ∷ items) = item.Bad ∷ plan_in items
 plan_in (item.Command byte first count ∷ items) = plan_in items
 
 -- the items that say that the drive took a command
@@ -49,6 +51,7 @@ abbrev pub commands_in : List Item → List Item
 commands_in [] = []
 commands_in (item.Answer ∷ items) = commands_in items
 commands_in (item.Go n ∷ items) = commands_in items
+commands_in (item.Bad ∷ items) = commands_in items
 commands_in (item.Command byte first count ∷ items) = item.Command byte first count ∷ commands_in items
 
 -- an event with its items and its answer

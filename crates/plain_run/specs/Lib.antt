@@ -2,3 +2,4 @@ pub mod Entry
 pub mod Event
 pub mod Taken
 pub mod Run
+pub mod Written

@@ -1,16 +1,102 @@
--- A whole run of a drive that has no monitor, so that the plain drive is the drive itself.
-use Rattle.std.specs.Prelude.{◌≡◌, List, [], ◌∷◌}
+-- A whole run of a drive that has no monitor: the guest's accesses reach the drive itself.
+use Rattle.std.specs.Prelude.{true, ◌≡◌, if◌then◌else◌, List, [], ◌∷◌}
+use Rattle.ata_taskfile.specs.declared.Step.{Step}
+use Rattle.ata_taskfile.specs.declared.Step.TheVariants as step
 use Rattle.plain_drive.specs.Plain.{Plain}
-use Rattle.plain_run.specs.Entry.{Entry, commands_in}
-use Rattle.plain_run.specs.Event.{PlainEvent}
+use Rattle.plain_drive.specs.Step.{acts}
+use Rattle.plain_drive.specs.Physical.{Physical, StandsFor, seen, keeping, physical_step, physical_destaged, physical_cut}
+use Rattle.schedule_text.specs.declared.Event.{Event}
+use Rattle.schedule_text.specs.declared.Event.TheVariants as event
+use Rattle.schedule_text.specs.declared.Item.{Item}
+use Rattle.schedule_text.specs.declared.Item.TheVariants as item
+use Rattle.plain_run.specs.Entry.{Entry, answers_in, commands_in, plan_in}
+use Rattle.plain_run.specs.Event.{PlainEvent, answer_to, accessed, is_cut, restarted, zeroed}
 use Rattle.plain_run.specs.Taken.{commands_due}
 
--- one event: a plain event whose commands are those that the drive took
-pub record DirectEvent (old : Plain) (entry : Entry) (new : Plain) : Type 0 where
-  pub plain : PlainEvent old entry new
-  pub commands : commands_in entry.items ≡ commands_due old.device.file new.device.file
+-- a physical drive after a guest's event, which reaches no sector
+abbrev pub reached_by : Event → Physical → Physical
+reached_by one p = keeping p.kept (accessed one (seen p))
 
--- the entries, the newest first, lead from the start to now, one event after the other
-abbrev pub IsDirectRun : Plain → List Entry → Plain → Type 0
+-- the physical drive after an event: exactly its access, step, destage or cut
+abbrev pub physical_event : Event → Physical → Physical
+physical_event (event.Read8 r) p = reached_by (event.Read8 r) p
+physical_event (event.Write8 r v) p = reached_by (event.Write8 r v) p
+physical_event (event.ReadWords n) p = reached_by (event.ReadWords n) p
+physical_event (event.WriteWords bytes) p = reached_by (event.WriteWords bytes) p
+physical_event event.ReadPointer p = p
+physical_event (event.WritePointer v) p = reached_by (event.WritePointer v) p
+physical_event (event.ReadMemory address n) p = p
+physical_event (event.WriteMemory address bytes) p = reached_by (event.WriteMemory address bytes) p
+physical_event event.Line p = p
+physical_event (event.Drive s) p = physical_step s p
+physical_event (event.Destage k) p = physical_destaged k p
+physical_event event.Cut p = physical_cut (zeroed p.memory) p
+physical_event event.Remark p = p
+physical_event event.End p = p
+
+-- the plan item of a step that has an effect
+abbrev pub step_item : Step → Item
+step_item step.Good = item.Go 1
+step_item step.Bad = item.Bad
+
+-- the plan items of an event on a drive without a monitor: a step's, where it has an effect (own)
+abbrev pub plan_due : Event → Plain → List Item
+plan_due (event.Drive s) p = if acts s p then step_item s ∷ [] else []
+plan_due (event.Read8 r) p = []
+plan_due (event.Write8 r v) p = []
+plan_due (event.ReadWords n) p = []
+plan_due (event.WriteWords bytes) p = []
+plan_due event.ReadPointer p = []
+plan_due (event.WritePointer v) p = []
+plan_due (event.ReadMemory address n) p = []
+plan_due (event.WriteMemory address bytes) p = []
+plan_due event.Line p = []
+plan_due (event.Destage k) p = []
+plan_due event.Cut p = []
+plan_due event.Remark p = []
+plan_due event.End p = []
+
+-- one event of a physical drive without a monitor:
+pub record DriveEvent (old : Physical) (entry : Entry) (new : Physical) : Type 0 where
+  -- the drive makes exactly its access, step, destage or cut
+  pub after : new ≡ physical_event entry.event old
+  -- its answer is the drive's
+  pub answered : answers_in entry.items entry.bytes ≡ answer_to entry.event (seen old)
+  -- its plan is the step that has an effect
+  pub planned : plan_in entry.items ≡ plan_due entry.event (seen old)
+  -- its commands are those that the drive took
+  pub commands : commands_in entry.items ≡ commands_due old.file new.file
+
+-- the entries, the newest first, lead a physical drive from start to now, one event after the other
+abbrev pub IsDriveRun : Physical → List Entry → Physical → Type 0
+IsDriveRun start [] now = now ≡ start
+IsDriveRun start (entry ∷ earlier) now = (before : Physical) × IsDriveRun start earlier before × DriveEvent before entry now
+
+-- a plain drive, and the physical one that stands for it
+pub record Drives : Type 0 where
+  pub plain : Plain
+  pub physical : Physical
+
+-- the two together
+abbrev pub drives : Plain → Physical → Drives
+drives p q = record { plain = p; physical = q }
+
+-- one event of both:
+pub record DirectEvent (old : Drives) (entry : Entry) (new : Drives) : Type 0 where
+  -- it is an event of the plain drive
+  pub plain : PlainEvent old.plain entry new.plain
+  -- and one of the physical drive
+  pub physical : DriveEvent old.physical entry new.physical
+  -- after a cut the plain drive goes on with the physical one's durable sectors
+  pub cut : is_cut entry.event ≡ true → new.plain ≡ restarted new.physical.kept.durable old.plain
+
+-- the entries, the newest first, lead both from start to now, one event after the other
+abbrev pub IsDirectRun : Drives → List Entry → Drives → Type 0
 IsDirectRun start [] now = now ≡ start
-IsDirectRun start (entry ∷ earlier) now = (before : Plain) × IsDirectRun start earlier before × DirectEvent before entry now
+IsDirectRun start (entry ∷ earlier) now = (before : Drives) × IsDirectRun start earlier before × DirectEvent before entry now
+
+-- a plain run beside a physical drive's run with the same entries, to a plain drive for which the physical one stands then
+pub record HasPlainRun (start : Plain) (physical : Physical) (entries : List Entry) (now : Physical) : Type 0 where
+  pub plain : Plain
+  pub run : IsDirectRun (drives start physical) entries (drives plain now)
+  pub stands : StandsFor now plain

@@ -1,20 +1,56 @@
 //! The book of runs: what it means that a report is one of a plain drive.
 //!
 //! Start with `specs/Entry.antt`, an event with what the report says of it, then `specs/Event.antt` for one event
-//! and `specs/Run.antt` for a whole run. `specs/Taken.antt` says where a report tells that the drive took a command.
-//! The functions below are laws that show what the definitions mean; `docs/drive.md` has the same in words.
+//! of a plain drive and `specs/Run.antt` for a whole run of a drive that has no monitor. `specs/Taken.antt` says
+//! where a report tells that the drive took a command, and `specs/Written.antt` which sectors such lines name as
+//! written. The functions below are laws that show what the definitions mean; `docs/drive.md` has the same in
+//! words.
 
 #![tactic(auto)]
 
-ghost use Rattle.std.specs.Prelude.{◌≡◌, List, ℕ, true};
-ghost use Rattle.ata_taskfile.specs.TaskFile.{is_at_work};
+ghost use Rattle.std.specs.Prelude.{◌≡◌, ℕ, List, [], All, length, slice_index_or, false};
 ghost use Rattle.plain_drive.specs.Plain.{Plain};
-ghost use Rattle.schedule_text.specs.declared.Event.{Event};
+ghost use Rattle.plain_drive.specs.Physical.{Physical, StandsFor, fresh, physical_at_power_on};
 ghost use Rattle.schedule_text.specs.declared.Event.TheVariants.{Remark};
 ghost use Rattle.plain_run.specs.Entry.{Entry};
 ghost use Rattle.plain_run.specs.Event.{PlainEvent};
+ghost use Rattle.plain_run.specs.Run.{HasPlainRun, IsDriveRun};
+ghost use Rattle.plain_run.specs.Written.{is_named};
 
 /// A remark gets no answer and no plan line, and leaves the drive as it is.
 pub fn a_remark_changes_nothing()
     ensures { (old new : Plain) (entry : Entry) → entry.event ≡ Remark → PlainEvent old entry new → new ≡ old }
+{}
+
+/// Each run of a physical drive that stands for a plain one is, with the same entries, a plain run beside it: its
+/// answers and plan lines are the plain drive's, which goes on after a cut with the durable sectors. It leads to a
+/// plain drive for which the physical one stands then.
+pub fn a_drives_run_is_a_plain_run()
+    ensures { (start : Plain) (physical now : Physical) (entries : List Entry) → StandsFor physical start
+        → IsDriveRun physical entries now → HasPlainRun start physical entries now }
+{}
+
+/// A run changes neither how many sectors a drive keeps, nor how many it says it has.
+pub fn a_run_keeps_the_count_of_sectors()
+    ensures kept { (start now : Physical) (entries : List Entry) → IsDriveRun start entries now
+        → length now.kept.durable ≡ length start.kept.durable }
+    ensures said { (start now : Physical) (entries : List Entry) → IsDriveRun start entries now
+        → now.sectors ≡ start.sectors }
+{}
+
+/// A drive that begins with whole sectors, of 512 bytes each, keeps whole ones.
+pub fn a_run_keeps_sectors_whole()
+    ensures { (room : ℕ) (durable : List (List ℕ)) (memory : List ℕ) (entries : List Entry) (now : Physical)
+        → All (λ sector. length sector ≡ 512) durable
+        → IsDriveRun (physical_at_power_on (fresh room durable) (length durable) memory) entries now
+        → All (λ sector. length sector ≡ 512) now.kept.durable }
+{}
+
+/// A sector that no command line of a write names has the durable value that it began with.
+pub fn only_named_sectors_change()
+    ensures { (room : ℕ) (durable : List (List ℕ)) (memory : List ℕ) (entries : List Entry) (now : Physical)
+        → All (λ sector. length sector ≡ 512) durable
+        → IsDriveRun (physical_at_power_on (fresh room durable) (length durable) memory) entries now
+        → (s : ℕ) → is_named s entries ≡ false
+        → slice_index_or now.kept.durable s [] ≡ slice_index_or durable s [] }
 {}

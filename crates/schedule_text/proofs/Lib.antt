@@ -1,3 +1,6 @@
+pub mod Numbers
+pub mod Hex
 pub mod Grammar
+pub mod Forms
 pub mod Lines
 pub mod Readings

@@ -1,10 +1,11 @@
 -- The grammar of one line of a schedule: by the text of each event.
-use Rattle.std.specs.Prelude.{ℕ, ◌≡◌, ◌<◌, ◌≤◌, ◌+◌, ◌/◌, ◌%◌, ◌++◌, List, [], ◌∷◌, length, codes, decimal, slice_index, false, nat_lt, if◌then◌else◌, Result, MatchResult}
+use Rattle.std.specs.Prelude.{ℕ, ◌≡◌, ◌<◌, ◌≤◌, ◌+◌, ◌/◌, ◌%◌, ◌^◌, ◌++◌, ◌⊎◌, List, [], ◌∷◌, length, codes, decimal, slice_index, nat_lt, if◌then◌else◌, Result, Ok, Err, MatchResult}
+use Rattle.std.specs.List.{AllByRecursion, flat_map}
+use Rattle.std.specs.Int.{w32, to_be_bytes}
 use Rattle.std.specs.Str.Parse.{IsNumeral, digits_value}
 use Rattle.ata_taskfile.specs.declared.Reg.{Reg}
 use Rattle.ata_taskfile.specs.declared.Reg.TheVariants as reg
 use Rattle.ata_taskfile.specs.declared.Step.TheVariants as step
-use Rattle.ata_taskfile.specs.TaskFile.{is_of_bus}
 use Rattle.schedule_text.specs.declared.Event.{Event}
 use Rattle.schedule_text.specs.declared.Event.TheVariants as event
 use Rattle.schedule_text.specs.declared.LineFault.{LineFault}
@@ -32,30 +33,83 @@ hex_digit n = if nat_lt n 10 then 48 + n else 87 + n
 abbrev pub hex_byte : ℕ → List ℕ
 hex_byte v = hex_digit (v / 16) ∷ hex_digit (v % 16) ∷ []
 
+-- bytes in hexadecimal, two digits each
+abbrev pub hex_text : List ℕ → List ℕ
+hex_text bytes = flat_map hex_byte bytes
+
+-- a number of 32 bits in eight hexadecimal digits, the most significant first
+abbrev pub hex_long : ℕ → List ℕ
+hex_long v = hex_text (to_be_bytes w32 v)
+
+-- each is a byte
+abbrev pub AreBytes : List ℕ → Type 0
+AreBytes bytes = AllByRecursion (λ b. b < 256) bytes
+
+-- one byte or more, and so many at most
+abbrev pub AreSomeBytes : ℕ → List ℕ → Type 0
+AreSomeBytes most bytes = AreBytes bytes × (1 ≤ length bytes) × (length bytes ≤ most)
+
+-- the numbers and lengths of an event are those that a line can say (own)
+abbrev pub IsInRange : Event → Type 0
+IsInRange (event.Read8 r) = Unit {0}
+IsInRange (event.Write8 r v) = v < 256
+IsInRange (event.ReadWords n) = (1 ≤ n) × (n ≤ 256)
+IsInRange (event.WriteWords bytes) = AreSomeBytes 512 bytes × (length bytes % 2 ≡ 0)
+IsInRange event.ReadPointer = Unit {0}
+IsInRange (event.WritePointer v) = v < 2 ^ 32
+IsInRange (event.ReadMemory a n) = (a < 2 ^ 32) × (1 ≤ n) × (n ≤ 2000)
+IsInRange (event.WriteMemory a bytes) = (a < 2 ^ 32) × AreSomeBytes 2000 bytes
+IsInRange event.Line = Unit {0}
+IsInRange (event.Drive s) = Unit {0}
+IsInRange (event.Destage k) = k ≤ 63
+IsInRange event.Cut = Unit {0}
+IsInRange event.Remark = Unit {0}
+IsInRange event.End = Unit {0}
+
 -- an empty line, or one that begins with # (35)
 abbrev pub IsRemark : List ℕ → Type 0
 IsRemark [] = Unit {0}
 IsRemark (c ∷ rest) = c ≡ 35
 
--- a line says an event; the registers of the bus master and the failing step aren't built yet (own)
+-- a line is the text of an event (own)
+abbrev pub IsTextOf : Event → List ℕ → Type 0
+IsTextOf (event.Read8 r) line = line ≡ codes "g r8 " ++ register_text r
+IsTextOf (event.Write8 r v) line = line ≡ codes "g w8 " ++ register_text r ++ 32 ∷ hex_byte v
+IsTextOf (event.ReadWords n) line = line ≡ codes "g rd " ++ decimal n
+IsTextOf (event.WriteWords bytes) line = line ≡ codes "g wd " ++ hex_text bytes
+IsTextOf event.ReadPointer line = line ≡ codes "g r32"
+IsTextOf (event.WritePointer v) line = line ≡ codes "g w32 " ++ hex_long v
+IsTextOf (event.ReadMemory a n) line = line ≡ codes "g mr " ++ hex_long a ++ 32 ∷ decimal n
+IsTextOf (event.WriteMemory a bytes) line = line ≡ codes "g mw " ++ hex_long a ++ 32 ∷ hex_text bytes
+IsTextOf event.Line line = line ≡ codes "g line"
+IsTextOf (event.Drive step.Good) line = line ≡ codes "d ok"
+IsTextOf (event.Drive step.Bad) line = line ≡ codes "d bad"
+IsTextOf (event.Destage k) line = line ≡ codes "d put " ++ decimal k
+IsTextOf event.Cut line = line ≡ codes "cut"
+IsTextOf event.Remark line = IsRemark line × (length line ≤ LINE_BYTES)
+IsTextOf event.End line = line ≡ codes "end"
+
+-- a line says an event
 abbrev pub Says : List ℕ → Event → Type 0
-Says line (event.Read8 r) = (is_of_bus r ≡ false) × (line ≡ codes "g r8 " ++ register_text r)
-Says line (event.Write8 r v) = (is_of_bus r ≡ false) × (v < 256) × (line ≡ codes "g w8 " ++ register_text r ++ 32 ∷ hex_byte v)
-Says line (event.ReadWords n) = (1 ≤ n) × (n ≤ 256) × (line ≡ codes "g rd " ++ decimal n)
-Says line event.Line = line ≡ codes "g line"
-Says line (event.Drive step.Good) = line ≡ codes "d ok"
-Says line (event.Drive step.Bad) = ⊥
-Says line event.Remark = IsRemark line × (length line ≤ LINE_BYTES)
-Says line event.End = line ≡ codes "end"
+Says line e = IsInRange e × IsTextOf e line
 
 -- decimal digits without a leading zero
 abbrev pub IsDecimal : List ℕ → Type 0
 IsDecimal text = IsNumeral 10 text × (slice_index text 0 ≡ 48 → length text ≡ 1)
 
--- a line has the shape of an event, but its decimal number, however long, is out of range
+-- a decimal number, however long, that isn't from low to high
+abbrev pub IsBeyond : ℕ → ℕ → List ℕ → Type 0
+IsBeyond low high text = IsDecimal text × ¬ ((low ≤ digits_value 10 text) × (digits_value 10 text ≤ high))
+
+-- a line has an event's shape up to its decimal number, and that number is out of range (own)
+abbrev pub HasBeyond : List ℕ → Type 0
+HasBeyond line = ((text : List ℕ) × (line ≡ codes "g rd " ++ text) × IsBeyond 1 256 text)
+    ⊎ ((a : ℕ) × (text : List ℕ) × (a < 2 ^ 32) × (line ≡ codes "g mr " ++ hex_long a ++ 32 ∷ text) × IsBeyond 1 2000 text)
+    ⊎ ((text : List ℕ) × (line ≡ codes "d put " ++ text) × IsBeyond 0 63 text)
+
+-- the same of a line that isn't too long
 abbrev pub IsOutOfRange : List ℕ → Type 0
-IsOutOfRange line = (length line ≤ LINE_BYTES) × ((digits : List ℕ) × (line ≡ codes "g rd " ++ digits)
-    × IsDecimal digits × ¬ ((1 ≤ digits_value 10 digits) × (digits_value 10 digits ≤ 256)))
+IsOutOfRange line = (length line ≤ LINE_BYTES) × HasBeyond line
 
 -- a line of no event's shape
 abbrev pub IsFormless : List ℕ → Type 0
@@ -74,12 +128,12 @@ HasFault line fault.Trailing = ⊥
 abbrev pub Reads : List ℕ → Result Event LineFault → Type 0
 Reads line answer = MatchResult answer (Says line) (HasFault line)
 
--- the numbers of an event are those that a line can say
-abbrev pub IsInRange : Event → Type 0
-IsInRange (event.Read8 r) = is_of_bus r ≡ false
-IsInRange (event.Write8 r v) = is_of_bus r ≡ false
-IsInRange (event.ReadWords n) = (1 ≤ n) × (n ≤ 256)
-IsInRange event.Line = Unit {0}
-IsInRange (event.Drive s) = s ≡ step.Good
-IsInRange event.Remark = Unit {0}
-IsInRange event.End = Unit {0}
+-- the answer to a decimal number of a line that may be from low to high: the number, or its fault
+abbrev pub ReadsNumber : ℕ → ℕ → List ℕ → Result ℕ LineFault → Type 0
+ReadsNumber low high text (Ok n) = (low ≤ n) × (n ≤ high) × (text ≡ decimal n)
+ReadsNumber low high text (Err fault.Form) = ¬ IsDecimal text
+ReadsNumber low high text (Err fault.Number) = IsBeyond low high text
+ReadsNumber low high text (Err fault.LongLine) = ⊥
+ReadsNumber low high text (Err fault.NoEnd) = ⊥
+ReadsNumber low high text (Err fault.TooMany) = ⊥
+ReadsNumber low high text (Err fault.Trailing) = ⊥

@@ -1,18 +1,14 @@
 -- The lines of a report.
 use Rattle.std.specs.Prelude.{ℕ, ◌++◌, List, [], ◌∷◌, codes, decimal}
-use Rattle.std.specs.List.{flat_map}
 use Rattle.schedule_text.specs.declared.Item.{Item}
 use Rattle.schedule_text.specs.declared.Item.TheVariants as item
-use Rattle.schedule_text.specs.Line.{hex_byte}
-
--- bytes in hexadecimal, two digits each
-abbrev pub hex_text : List ℕ → List ℕ
-hex_text bytes = flat_map hex_byte bytes
+use Rattle.schedule_text.specs.Line.{hex_byte, hex_text}
 
 -- what a report says of an item; `bytes` is the answer of its event (own)
 abbrev pub item_text : Item → List ℕ → List ℕ
 item_text item.Answer bytes = codes "o " ++ hex_text bytes
 item_text (item.Go n) bytes = codes "p go " ++ decimal n
+item_text item.Bad bytes = codes "p bad"
 item_text (item.Command byte first count) bytes = codes "c " ++ hex_byte byte ++ 32 ∷ decimal first ++ 32 ∷ decimal count
 
 -- a report's line: the number of the event's line, a space, the item and a line feed (own)

@@ -7,10 +7,12 @@
 #![tactic(auto)]
 
 mod emitted;
+mod parts;
 mod read;
 mod schedule;
 mod write;
 
+use aoe_frame::Bytes;
 use ata_taskfile::{Reg, Step};
 pub use emitted::Emitted;
 pub use read::{line_says_one_event, read_line};
@@ -24,7 +26,7 @@ pub const LINE_BYTES: usize = 4096;
 pub const LAST_LINE: u32 = u32::MAX - 1;
 
 /// What one line of a schedule says.
-#[derive(Clone, Copy, Debug, PartialEq, Eq)]
+#[derive(Clone, Debug, Drop, PartialEq, Eq)]
 pub enum Event {
     /// The guest reads a register.
     Read8(Reg),
@@ -32,10 +34,24 @@ pub enum Event {
     Write8(Reg, u8),
     /// The guest reads so many words from Data, one after the other: 1 to 256.
     ReadWords(u32),
+    /// The guest writes words to Data, one after the other: 1 to 256, the low byte of each first.
+    WriteWords(Bytes<512>),
+    /// The guest reads the pointer to the descriptor table.
+    ReadPointer,
+    /// The guest writes the pointer to the descriptor table.
+    WritePointer(u32),
+    /// The guest reads its memory: from an address on so many bytes, 1 to 2,000.
+    ReadMemory(u32, u32),
+    /// The guest writes its memory: from an address on 1 to 2,000 bytes.
+    WriteMemory(u32, Bytes<2000>),
     /// The guest looks at the interrupt line.
     Line,
     /// The drive makes a step.
     Drive(Step),
+    /// The entry of the drive's cache at a place becomes durable: 0 to 63, the oldest first.
+    Destage(u32),
+    /// The power is cut, and comes again.
+    Cut,
     /// An empty line or a note: no event.
     Remark,
     /// The schedule ends here.
@@ -67,6 +83,8 @@ pub enum Item {
     Answer,
     /// The plain drive made so many Good steps.
     Go(u32),
+    /// The plain drive made a Bad step.
+    Bad,
     /// The drive took a command: its byte, its first sector and its count, both 0 without a range or refused.
     Command(u8, u64, u32),
 }

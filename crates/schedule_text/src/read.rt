@@ -1,19 +1,13 @@
 //! The lines of a schedule, from bytes.
 
-ghost use Rattle.std.specs.Prelude.{◌≡◌, ◌≢◌, ◌<◌, ◌≤◌, ◌+◌, ◌^◌, ◌++◌, ◌∷◌, [], ◌↔◌, ℕ, List};
-ghost use Rattle.std.specs.Prelude.{length, codes, false, IsTrue, IfSome, IfOk, IfErr, SomeIff, MatchOption};
-ghost use Rattle.std.specs.List.{list_all};
-ghost use Rattle.std.specs.Char.{is_ascii_digit};
-ghost use Rattle.std.specs.Str.Parse.{digits_value};
-ghost use Rattle.ata_taskfile.specs.TaskFile.{is_of_bus};
-ghost use Rattle.ata_taskfile.specs.declared.Reg.{Reg as RegOf};
+ghost use Rattle.std.specs.Prelude.{◌≡◌, ◌<◌, ◌≤◌, ◌+◌, ◌++◌, ◌∷◌, ◌↔◌, ℕ, List};
+ghost use Rattle.std.specs.Prelude.{length, codes, IfOk, IfErr};
 ghost use Rattle.schedule_text.specs.declared.Event.{Event as EventOf};
-ghost use Rattle.schedule_text.specs.Line.{register_text, hex_digit, hex_byte, IsDecimal};
-ghost use Rattle.schedule_text.specs.Line.{Says, Reads, HasFault, IsOutOfRange, IsFormless};
+ghost use Rattle.schedule_text.specs.Line.{hex_long, Says, Reads, HasFault, IsOutOfRange, IsFormless};
 
+use crate::parts::{address_and_rest, after, bytes, long, number, register, register_and_byte};
 use crate::{Event, LINE_BYTES, LineFault};
-use ata_taskfile::{Reg, Step};
-use std::str;
+use ata_taskfile::Step;
 
 /// What one line of a schedule says. `line` is without its line feed.
 ///
@@ -38,20 +32,60 @@ fn read_short_line(line: &[u8]) -> Result<Event, LineFault>
     requires { length line.now ≤ LINE_BYTES }
     ensures reads { Reads line.now result }
 {
-    if let Some(name) = after(line, b"g r8 ") {
+    match line {
+        [b'g', b' ', access @ ..] => read_access(access),
+        [b'd', b' ', act @ ..] => read_act(act),
+        [] | [b'#', ..] => Ok(Event::Remark),
+        b"cut" => Ok(Event::Cut),
+        b"end" => Ok(Event::End),
+        _ => Err(LineFault::Form),
+    }
+}
+
+// An access of the guest.
+fn read_access(access: &[u8]) -> Result<Event, LineFault>
+    requires { 2 + length access.now ≤ LINE_BYTES }
+    ensures reads { Reads (codes "g " ++ access.now) result }
+{
+    if let Some(name) = after(access, b"r8 ") {
         return read_read8(name);
     }
-    if let Some(rest) = after(line, b"g w8 ") {
+    if let Some(rest) = after(access, b"w8 ") {
         return read_write8(rest);
     }
-    if let Some(digits) = after(line, b"g rd ") {
+    if let Some(digits) = after(access, b"rd ") {
         return read_words(digits);
     }
-    match line {
-        [] | [b'#', ..] => Ok(Event::Remark),
-        b"g line" => Ok(Event::Line),
-        b"d ok" => Ok(Event::Drive(Step::Good)),
-        b"end" => Ok(Event::End),
+    if let Some(hex) = after(access, b"wd ") {
+        return read_write_words(hex);
+    }
+    if let Some(hex) = after(access, b"w32 ") {
+        return read_write_pointer(hex);
+    }
+    if let Some(rest) = after(access, b"mr ") {
+        return read_memory(rest);
+    }
+    if let Some(rest) = after(access, b"mw ") {
+        return read_write_memory(rest);
+    }
+    match access {
+        b"r32" => Ok(Event::ReadPointer),
+        b"line" => Ok(Event::Line),
+        _ => Err(LineFault::Form),
+    }
+}
+
+// An act of the drive.
+fn read_act(act: &[u8]) -> Result<Event, LineFault>
+    requires { 2 + length act.now ≤ LINE_BYTES }
+    ensures reads { Reads (codes "d " ++ act.now) result }
+{
+    if let Some(digits) = after(act, b"put ") {
+        return read_destage(digits);
+    }
+    match act {
+        b"ok" => Ok(Event::Drive(Step::Good)),
+        b"bad" => Ok(Event::Drive(Step::Bad)),
         _ => Err(LineFault::Form),
     }
 }
@@ -76,98 +110,87 @@ fn read_write8(rest: &[u8]) -> Result<Event, LineFault>
     }
 }
 
-#[tactic(auto, using(crate::proofs::Grammar::words))]
 fn read_words(digits: &[u8]) -> Result<Event, LineFault>
     requires { 5 + length digits.now ≤ LINE_BYTES }
     ensures reads { Reads (codes "g rd " ++ digits.now) result }
 {
-    if !is_decimal(digits) {
+    match number(digits, 1, 256) {
+        Ok(count) => Ok(Event::ReadWords(count)),
+        Err(fault) => Err(fault),
+    }
+}
+
+#[tactic(auto, using(crate::proofs::Hex::lengths))]
+fn read_write_words(hex: &[u8]) -> Result<Event, LineFault>
+    requires { 5 + length hex.now ≤ LINE_BYTES }
+    ensures reads { Reads (codes "g wd " ++ hex.now) result }
+{
+    if hex.len() % 4 != 0 {
         return Err(LineFault::Form);
     }
-    match value(digits) {
-        Some(count @ 1..=256) => Ok(Event::ReadWords(count)),
-        _ => Err(LineFault::Number),
+    match bytes(hex) {
+        Some(bytes) => Ok(Event::WriteWords(bytes)),
+        None => Err(LineFault::Form),
     }
 }
 
-fn after<'a>(line: &'a [u8], front: &[u8]) -> Option<&'a [u8]>
-    ensures cut { MatchOption result ((rest : List ℕ) → line.now ≢ front.now ++ rest)
-        (λ rest. line.now ≡ front.now ++ rest.now) }
+fn read_write_pointer(hex: &[u8]) -> Result<Event, LineFault>
+    requires { 6 + length hex.now ≤ LINE_BYTES }
+    ensures reads { Reads (codes "g w32 " ++ hex.now) result }
 {
-    line.strip_prefix(front)
-}
-
-fn register_and_byte(text: &[u8]) -> Option<(Reg, u8)>
-    ensures found { IfSome result (λ pair. (is_of_bus pair.0 ≡ false)
-        × (text.now ≡ register_text pair.0 ++ 32 ∷ hex_byte pair.1)) }
-    ensures all { (r : RegOf) (v : ℕ) → is_of_bus r ≡ false → v < 256
-        → text.now ≡ register_text r ++ 32 ∷ hex_byte v → result ≡ Some (r, v) }
-{
-    let [name @ .., b' ', high, low] = text else {
-        return None;
-    };
-    Some((register(name)?, byte(*high, *low)?))
-}
-
-fn register(name: &[u8]) -> Option<Reg>
-    ensures found { IfSome result (λ r. (is_of_bus r ≡ false) × (name.now ≡ register_text r)) }
-    ensures all { (r : RegOf) → is_of_bus r ≡ false → name.now ≡ register_text r → result ≡ Some r }
-{
-    match name {
-        b"er" => Some(Reg::Error),
-        b"sc" => Some(Reg::Count),
-        b"ll" => Some(Reg::Low),
-        b"lm" => Some(Reg::Mid),
-        b"lh" => Some(Reg::High),
-        b"dv" => Some(Reg::Device),
-        b"st" => Some(Reg::Status),
-        b"al" => Some(Reg::Alternate),
-        _ => None,
+    match long(hex) {
+        Some(pointer) => Ok(Event::WritePointer(pointer)),
+        None => Err(LineFault::Form),
     }
 }
 
-fn byte(high: u8, low: u8) -> Option<u8>
-    ensures found { IfSome result (λ v. high ∷ low ∷ [] ≡ hex_byte v) }
-    ensures all { (v : ℕ) → v < 256 → high ∷ low ∷ [] ≡ hex_byte v → result ≡ Some v }
+fn read_memory(rest: &[u8]) -> Result<Event, LineFault>
+    requires { 5 + length rest.now ≤ LINE_BYTES }
+    ensures reads { Reads (codes "g mr " ++ rest.now) result }
 {
-    Some(digit(high)? * 16 + digit(low)?)
-}
-
-fn digit(c: u8) -> Option<u8>
-    ensures found { IfSome result (λ v. (v < 16) × (c ≡ hex_digit v)) }
-    ensures all { (v : ℕ) → v < 16 → c ≡ hex_digit v → result ≡ Some v }
-{
-    match c {
-        b'0'..=b'9' => Some(c - b'0'),
-        b'a'..=b'f' => Some(c - b'a' + 10),
-        _ => None,
+    match address_and_rest(rest) {
+        Some((address, digits)) => read_count(address, digits),
+        None => Err(LineFault::Form),
     }
 }
 
-#[tactic(auto, using(crate::proofs::Grammar::digits))]
-fn is_decimal(text: &[u8]) -> bool
-    ensures decimal { IsTrue result ↔ IsDecimal text.now }
+fn read_count(address: u32, digits: &[u8]) -> Result<Event, LineFault>
+    requires { 14 + length digits.now ≤ LINE_BYTES }
+    ensures reads { Reads (codes "g mr " ++ hex_long address ++ 32 ∷ digits.now) result }
 {
-    match text {
-        [b'0'] => true,
-        [b'1'..=b'9', ..] => has_only_digits(text),
-        _ => false,
+    match number(digits, 1, 2000) {
+        Ok(count) => Ok(Event::ReadMemory(address, count)),
+        Err(fault) => Err(fault),
     }
 }
 
-fn has_only_digits(text: &[u8]) -> bool
-    ensures digits { result ≡ list_all is_ascii_digit text.now }
+fn read_write_memory(rest: &[u8]) -> Result<Event, LineFault>
+    requires { 5 + length rest.now ≤ LINE_BYTES }
+    ensures reads { Reads (codes "g mw " ++ rest.now) result }
 {
-    text.iter().all(|byte| byte.is_ascii_digit())
+    match address_and_rest(rest) {
+        Some((address, hex)) => read_bytes(address, hex),
+        None => Err(LineFault::Form),
+    }
 }
 
-fn value(digits: &[u8]) -> Option<u32>
-    requires { IsDecimal digits.now }
-    ensures value { SomeIff result (digits_value 10 digits.now < 2 ^ 32) (digits_value 10 digits.now) }
+fn read_bytes(address: u32, hex: &[u8]) -> Result<Event, LineFault>
+    requires { 14 + length hex.now ≤ LINE_BYTES }
+    ensures reads { Reads (codes "g mw " ++ hex_long address ++ 32 ∷ hex.now) result }
 {
-    match str::from_utf8(digits) {
-        Ok(text) => text.parse().ok(),
-        Err(_) => None,
+    match bytes(hex) {
+        Some(bytes) => Ok(Event::WriteMemory(address, bytes)),
+        None => Err(LineFault::Form),
+    }
+}
+
+fn read_destage(digits: &[u8]) -> Result<Event, LineFault>
+    requires { 6 + length digits.now ≤ LINE_BYTES }
+    ensures reads { Reads (codes "d put " ++ digits.now) result }
+{
+    match number(digits, 0, 63) {
+        Ok(place) => Ok(Event::Destage(place)),
+        Err(fault) => Err(fault),
     }
 }
 

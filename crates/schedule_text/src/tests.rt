@@ -2,115 +2,264 @@ use super::*;
 use arrayvec::ArrayVec;
 use std::test::Fail;
 
-const FORM: Result<Event, LineFault> = Err(LineFault::Form);
-
-const NUMBER: Result<Event, LineFault> = Err(LineFault::Number);
-
-const REMARK: Result<Event, LineFault> = Ok(Event::Remark);
-
-// The answers are by hand from the table of events: one space between words, two lower-case hexadecimal digits to a
-// byte, and a decimal without a leading zero, from 1 to 256.
-const LINES: [(&[u8], Result<Event, LineFault>); 84] = [
-    (b"g r8 er", Ok(Event::Read8(Reg::Error))),
-    (b"g r8 sc", Ok(Event::Read8(Reg::Count))),
-    (b"g r8 ll", Ok(Event::Read8(Reg::Low))),
-    (b"g r8 lm", Ok(Event::Read8(Reg::Mid))),
-    (b"g r8 lh", Ok(Event::Read8(Reg::High))),
-    (b"g r8 dv", Ok(Event::Read8(Reg::Device))),
-    (b"g r8 st", Ok(Event::Read8(Reg::Status))),
-    (b"g r8 al", Ok(Event::Read8(Reg::Alternate))),
-    (b"g r8 bc", FORM),
-    (b"g r8 bs", FORM),
-    (b"g r8 xx", FORM),
-    (b"g r8 ST", FORM),
-    (b"g r8 s", FORM),
-    (b"g r8 ", FORM),
-    (b"g r8", FORM),
-    (b"g r8 st ", FORM),
-    (b"g r8  st", FORM),
-    (b" g r8 st", FORM),
-    (b"g w8 er 00", Ok(Event::Write8(Reg::Error, 0))),
-    (b"g w8 sc 01", Ok(Event::Write8(Reg::Count, 1))),
-    (b"g w8 ll 0a", Ok(Event::Write8(Reg::Low, 10))),
-    (b"g w8 lm a0", Ok(Event::Write8(Reg::Mid, 160))),
-    (b"g w8 lh 9f", Ok(Event::Write8(Reg::High, 159))),
-    (b"g w8 dv e0", Ok(Event::Write8(Reg::Device, 224))),
-    (b"g w8 st 20", Ok(Event::Write8(Reg::Status, 32))),
-    (b"g w8 al ff", Ok(Event::Write8(Reg::Alternate, 255))),
-    (b"g w8 bc 09", FORM),
-    (b"g w8 bs 06", FORM),
-    (b"g w8 st FF", FORM),
-    (b"g w8 st 2", FORM),
-    (b"g w8 st 020", FORM),
-    (b"g w8 st 2g", FORM),
-    (b"g w8 st", FORM),
-    (b"g w8 st  20", FORM),
-    (b"g w8 st 20 ", FORM),
-    (b"g w8 st20", FORM),
-    (b"g rd 1", Ok(Event::ReadWords(1))),
-    (b"g rd 10", Ok(Event::ReadWords(10))),
-    (b"g rd 256", Ok(Event::ReadWords(256))),
-    (b"g rd 257", NUMBER),
-    (b"g rd 0", NUMBER),
-    (b"g rd 4294967297", NUMBER),
-    (b"g rd 100000000000000000000000000001", NUMBER),
-    (b"g rd 00", FORM),
-    (b"g rd 01", FORM),
-    (b"g rd +5", FORM),
-    (b"g rd -5", FORM),
-    (b"g rd 5 ", FORM),
-    (b"g rd  5", FORM),
-    (b"g rd 5a", FORM),
-    (b"g rd ", FORM),
-    (b"g line", Ok(Event::Line)),
-    (b"g lin", FORM),
-    (b"g line ", FORM),
-    (b"d ok", Ok(Event::Drive(Step::Good))),
-    (b"d ok ", FORM),
-    (b"d bad", FORM),
-    (b"t", FORM),
-    (b"end", Ok(Event::End)),
-    (b"end ", FORM),
-    (b"", REMARK),
-    (b"# note", REMARK),
-    (b"#\xff\r", REMARK),
-    (b" # note", FORM),
-    (b"g r8 s\xff", FORM),
-    (b"g r8 er\r", FORM),
-    (b"G r8 er", FORM),
-    (b"g\tr8 er", FORM),
-    (b"g w8 er 0A", FORM),
-    (b"g w8 er 0x", FORM),
-    (b"g w8 lh 7f", Ok(Event::Write8(Reg::High, 127))),
-    (b"g rd 99", Ok(Event::ReadWords(99))),
-    (b"g rd 100", Ok(Event::ReadWords(100))),
-    (b"g rd 255", Ok(Event::ReadWords(255))),
-    (b"g rd 258", NUMBER),
-    (b"g rd 1.0", FORM),
-    (b"g rd 0x10", FORM),
-    (b"g rd", FORM),
-    (b"g line st", FORM),
-    (b"d", FORM),
-    (b"D ok", FORM),
-    (b"end 1", FORM),
-    (b"END", FORM),
-    (b"g", FORM),
-];
-
+// By hand from the table of events: one space between words, two lower-case hexadecimal digits to a byte, eight to an
+// address with the most significant first, and a decimal without a leading zero.
 #[test]
-fn lines_of_a_schedule(rt: HostRuntime) {
-    for (line, answer) in LINES {
-        assert_eq!(rt; read_line(line), answer, "at {line:?}");
+fn events_of_lines(rt: HostRuntime) {
+    let cases: [(&[u8], Event); 58] = [
+        (b"g r8 er", Event::Read8(Reg::Error)),
+        (b"g r8 sc", Event::Read8(Reg::Count)),
+        (b"g r8 ll", Event::Read8(Reg::Low)),
+        (b"g r8 lm", Event::Read8(Reg::Mid)),
+        (b"g r8 lh", Event::Read8(Reg::High)),
+        (b"g r8 dv", Event::Read8(Reg::Device)),
+        (b"g r8 st", Event::Read8(Reg::Status)),
+        (b"g r8 al", Event::Read8(Reg::Alternate)),
+        (b"g r8 bc", Event::Read8(Reg::BusCommand)),
+        (b"g r8 bs", Event::Read8(Reg::BusStatus)),
+        (b"g w8 er 00", Event::Write8(Reg::Error, 0)),
+        (b"g w8 sc 01", Event::Write8(Reg::Count, 1)),
+        (b"g w8 ll 0a", Event::Write8(Reg::Low, 10)),
+        (b"g w8 lm a0", Event::Write8(Reg::Mid, 160)),
+        (b"g w8 lh 9f", Event::Write8(Reg::High, 159)),
+        (b"g w8 lh 7f", Event::Write8(Reg::High, 127)),
+        (b"g w8 dv e0", Event::Write8(Reg::Device, 224)),
+        (b"g w8 st 20", Event::Write8(Reg::Status, 32)),
+        (b"g w8 al ff", Event::Write8(Reg::Alternate, 255)),
+        (b"g w8 bc 09", Event::Write8(Reg::BusCommand, 9)),
+        (b"g w8 bs 06", Event::Write8(Reg::BusStatus, 6)),
+        (b"g rd 1", Event::ReadWords(1)),
+        (b"g rd 10", Event::ReadWords(10)),
+        (b"g rd 99", Event::ReadWords(99)),
+        (b"g rd 100", Event::ReadWords(100)),
+        (b"g rd 255", Event::ReadWords(255)),
+        (b"g rd 256", Event::ReadWords(256)),
+        (b"g r32", Event::ReadPointer),
+        (b"g w32 00000000", Event::WritePointer(0)),
+        (b"g w32 00000100", Event::WritePointer(256)),
+        (b"g w32 12345678", Event::WritePointer(0x1234_5678)),
+        (b"g w32 fedcba98", Event::WritePointer(0xfedc_ba98)),
+        (b"g w32 ffffffff", Event::WritePointer(u32::MAX)),
+        (b"g mr 00001000 768", Event::ReadMemory(4096, 768)),
+        (b"g mr 00000000 1", Event::ReadMemory(0, 1)),
+        (b"g mr ffffffff 2000", Event::ReadMemory(u32::MAX, 2000)),
+        (b"g mr 0badcafe 1999", Event::ReadMemory(0x0bad_cafe, 1999)),
+        (b"g line", Event::Line),
+        (b"d ok", Event::Drive(Step::Good)),
+        (b"d bad", Event::Drive(Step::Bad)),
+        (b"d put 0", Event::Destage(0)),
+        (b"d put 9", Event::Destage(9)),
+        (b"d put 10", Event::Destage(10)),
+        (b"d put 63", Event::Destage(63)),
+        (b"cut", Event::Cut),
+        (b"", Event::Remark),
+        (b"#", Event::Remark),
+        (b"# note", Event::Remark),
+        (b"#\xff\r", Event::Remark),
+        (b"#g r8 st", Event::Remark),
+        (b"g wd 0100", Event::WriteWords(list(&[1, 0]))),
+        (
+            b"g wd 34127856",
+            Event::WriteWords(list(&[0x34, 0x12, 0x78, 0x56])),
+        ),
+        (b"g wd ffff", Event::WriteWords(list(&[255, 255]))),
+        (b"g mw 00000100 0a", Event::WriteMemory(256, list(&[10]))),
+        (
+            b"g mw ffffffff 0af0",
+            Event::WriteMemory(u32::MAX, list(&[10, 240])),
+        ),
+        (
+            b"g mw 00000100 0010000000020080",
+            Event::WriteMemory(256, list(&[0, 16, 0, 0, 0, 2, 0, 128])),
+        ),
+        (
+            b"g mw 00000000 000000",
+            Event::WriteMemory(0, list(&[0, 0, 0])),
+        ),
+        (b"end", Event::End),
+    ];
+    for (line, event) in cases {
+        assert_eq!(rt; read_line(line), Ok(event), "at {line:?}");
     }
+}
+
+fn list<const N: usize>(bytes: &[u8]) -> Bytes<N> {
+    let mut all = Bytes::new();
+    for &byte in bytes {
+        all.push(byte);
+    }
+    all
+}
+
+// Lines that have no event's shape: by hand from the same table.
+#[test]
+fn lines_of_no_form(rt: HostRuntime) {
+    let lines: [&[u8]; 108] = [
+        b"g r8 xx",
+        b"g r8 ST",
+        b"g r8 s",
+        b"g r8 ",
+        b"g r8",
+        b"g r8 st ",
+        b"g r8  st",
+        b" g r8 st",
+        b"g w8 st FF",
+        b"g w8 st 2",
+        b"g w8 st 020",
+        b"g w8 st 2g",
+        b"g w8 st",
+        b"g w8 st  20",
+        b"g w8 st 20 ",
+        b"g w8 st20",
+        b"g w8 er 0A",
+        b"g w8 er 0x",
+        b"g rd 00",
+        b"g rd 01",
+        b"g rd +5",
+        b"g rd -5",
+        b"g rd 5 ",
+        b"g rd  5",
+        b"g rd 5a",
+        b"g rd ",
+        b"g rd 1.0",
+        b"g rd 0x10",
+        b"g rd",
+        b"g wd",
+        b"g wd ",
+        b"g wd 0",
+        b"g wd 01",
+        b"g wd 012",
+        b"g wd 010203",
+        b"g wd 01020",
+        b"g wd 0A00",
+        b"g wd 00g0",
+        b"g wd 0100 ",
+        b"g wd  0100",
+        b"g wd 01 00",
+        b"g r32 ",
+        b"g r32 0",
+        b"g r3",
+        b"g w32",
+        b"g w32 ",
+        b"g w32 0000010",
+        b"g w32 000000100",
+        b"g w32 0000010A",
+        b"g w32 00000x00",
+        b"g w32 00000100 ",
+        b"g w32  00000100",
+        b"g mr",
+        b"g mr ",
+        b"g mr 00001000",
+        b"g mr 00001000 ",
+        b"g mr 0001000 5",
+        b"g mr 000001000 5",
+        b"g mr 00001000 05",
+        b"g mr 00001000  5",
+        b"g mr 00001000 5 ",
+        b"g mr 0000100A 5",
+        b"g mr 0000100A 2001",
+        b"g mr 00001000 -1",
+        b"g mr 00001000 ff",
+        b"g mw",
+        b"g mw 00000100",
+        b"g mw 00000100 ",
+        b"g mw 00000100 0",
+        b"g mw 00000100 012",
+        b"g mw 0000100 01",
+        b"g mw 00000100 0A",
+        b"g mw 00000100  01",
+        b"g mw 00000100 01 ",
+        b"g mw 0000010001",
+        b"g line ",
+        b"g lin",
+        b"g line st",
+        b"d ok ",
+        b"d bad ",
+        b"d ba",
+        b"d put",
+        b"d put ",
+        b"d put 00",
+        b"d put 063",
+        b"d put -1",
+        b"d put 1 ",
+        b"cut ",
+        b"cu",
+        b"end ",
+        b"end 1",
+        b"END",
+        b"g r8 s\xff",
+        b"g r8 er\r",
+        b"G r8 er",
+        b"g\tr8 er",
+        b"g",
+        b"d",
+        b"t",
+        b"k",
+        b"n s 0",
+        b"n c 0 keep",
+        b"n ls 1",
+        b"n lc 1",
+        b"n x 00",
+        b"n y 00",
+        b"D ok",
+        b" # note",
+    ];
+    for line in lines {
+        assert_eq!(rt; read_line(line), Err(LineFault::Form), "at {line:?}");
+    }
+}
+
+// Decimal numbers out of their range, which is 1 to 256, 1 to 2,000, and 0 to 63.
+#[test]
+fn numbers_out_of_range(rt: HostRuntime) {
+    let lines: [&[u8]; 15] = [
+        b"g rd 0",
+        b"g rd 257",
+        b"g rd 258",
+        b"g rd 999",
+        b"g rd 4294967297",
+        b"g rd 100000000000000000000000000001",
+        b"g mr 00001000 0",
+        b"g mr 00001000 2001",
+        b"g mr ffffffff 10000",
+        b"g mr 00000000 4294967296",
+        b"g mr 00000000 18446744073709551617",
+        b"d put 64",
+        b"d put 100",
+        b"d put 4294967296",
+        b"d put 340282366920938463463374607431768211456",
+    ];
+    for line in lines {
+        assert_eq!(rt; read_line(line), Err(LineFault::Number), "at {line:?}");
+    }
+}
+
+// 256 words and 2,000 bytes of memory are the most that a line can write.
+#[test]
+fn longest_writes(rt: HostRuntime) {
+    let mut line = [b'a'; 4016];
+    line[..5].copy_from_slice(b"g wd ");
+    let words = Event::WriteWords(list(&[0xaa; 512]));
+    assert_eq!(rt; read_line(&line[..1029]), Ok(words));
+    assert_eq!(rt; read_line(&line[..1033]), Err(LineFault::Form));
+    line[..14].copy_from_slice(b"g mw 00000000 ");
+    let memory = Event::WriteMemory(0, list(&[0xaa; 2000]));
+    assert_eq!(rt; read_line(&line[..4014]), Ok(memory));
+    assert_eq!(rt; read_line(&line), Err(LineFault::Form));
 }
 
 // A line of 4,096 bytes is the longest; no longer one has a shape or a number, not even a remark.
 #[test]
 fn long_lines(rt: HostRuntime) {
-    for (start, answer) in [(b"# note", REMARK), (b"g rd 1", NUMBER), (b"g r8 0", FORM)] {
+    for (start, fault) in [
+        (b"# note", None),
+        (b"g rd 1", Some(LineFault::Number)),
+        (b"g r8 0", Some(LineFault::Form)),
+        (b"g wd 0", Some(LineFault::Form)),
+    ] {
         let mut line = [b'0'; LINE_BYTES + 1];
         line[..start.len()].copy_from_slice(start);
-        assert_eq!(rt; read_line(&line[..LINE_BYTES]), answer, "at {start:?}");
+        assert_eq!(rt; read_line(&line[..LINE_BYTES]).err(), fault, "at {start:?}");
         assert_eq!(rt; read_line(&line), Err(LineFault::LongLine), "at {start:?}");
     }
 }
@@ -118,7 +267,7 @@ fn long_lines(rt: HostRuntime) {
 // By hand from the table of a report's lines.
 #[test]
 fn lines_of_a_report(rt: HostRuntime) {
-    let cases: [(u32, Item, &[u8], &[u8]); 7] = [
+    let cases: [(u32, Item, &[u8], &[u8]); 8] = [
         (8, Item::Answer, &[0x80], b"8 o 80\n"),
         (
             13,
@@ -129,6 +278,7 @@ fn lines_of_a_report(rt: HostRuntime) {
         (7, Item::Command(0x20, 3, 1), &[], b"7 c 20 3 1\n"),
         (100, Item::Command(0xe7, 0, 0), &[1], b"100 c e7 0 0\n"),
         (1, Item::Go(1), &[], b"1 p go 1\n"),
+        (45, Item::Bad, &[], b"45 p bad\n"),
         (
             4294967294,
             Item::Go(u32::MAX),

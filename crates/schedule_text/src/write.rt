@@ -1,8 +1,8 @@
 //! The lines of a report, as bytes.
 
 ghost use Rattle.std.specs.Prelude.{◌≡◌, ◌≤◌, ◌+◌, ◌*◌, ◌++◌, ◌∷◌, [], length, decimal};
-ghost use Rattle.schedule_text.specs.Line.{hex_digit, hex_byte};
-ghost use Rattle.schedule_text.specs.Report.{hex_text, item_text, line_text, end_text};
+ghost use Rattle.schedule_text.specs.Line.{hex_digit, hex_byte, hex_text};
+ghost use Rattle.schedule_text.specs.Report.{item_text, line_text, end_text};
 
 use crate::Item;
 use arrayvec::ArrayVec;
@@ -48,6 +48,7 @@ fn push_item(item: &Item, bytes: &[u8], into: &mut ArrayVec<u8, 4096>)
             push_text(b"p go ", into);
             push_decimal(count.into(), into);
         }
+        Item::Bad => push_text(b"p bad", into),
         Item::Command(byte, first, count) => {
             push_text(b"c ", into);
             push_hex_byte(byte, into);

@@ -43,11 +43,11 @@ fn check(rt: &impl Abort, alloc: Global, schedule: &[u8], cases: &[Case<'_>]) ->
 }
 
 // The calls of a run that only ends, counted by hand. 0 to 3: begin and length of Image, then of Disk. 4 to 6: begin
-// of Schedule, Report and Out. 7: the disk's one piece. 8: the schedule's one block. 9: the schedule's end. 10: the
-// report's line. 11: out.
+// of Schedule, Report and Out. 7 to 22: the disk's 16 sectors. 23: the schedule's one block. 24: the schedule's end. 25:
+// the report's line. 26: out.
 #[test]
 fn each_call_of_an_empty_schedule_fails(rt: HostRuntime) -> Result<(), Fail> {
-    let cases: [Case<'_>; 13] = [
+    let cases: [Case<'_>; 14] = [
         (&[0], IMAGE, OLD_REPORT),
         (&[1], IMAGE, OLD_REPORT),
         (&[2], DISK, OLD_REPORT),
@@ -56,19 +56,20 @@ fn each_call_of_an_empty_schedule_fails(rt: HostRuntime) -> Result<(), Fail> {
         (&[5], REPORT, OLD_REPORT),
         (&[6], OUT, b""),
         (&[7], DISK, b""),
-        (&[8], SCHEDULE, b""),
-        (&[9], SCHEDULE, b""),
-        (&[10], REPORT, b""),
-        (&[11], OUT, b"end 1\n"),
-        (&[12], DONE, b"end 1\n"),
+        (&[22], DISK, b""),
+        (&[23], SCHEDULE, b""),
+        (&[24], SCHEDULE, b""),
+        (&[25], REPORT, b""),
+        (&[26], OUT, b"end 1\n"),
+        (&[27], DONE, b"end 1\n"),
     ];
     check(&rt, rt.alloc(), b"end\n", &cases)
 }
 
 // The calls of a run that reads one sector, counted by hand. 0 to 3: begin and length of Image, then of Disk. 4 to 6:
-// begin of Schedule, Report and Out. 7: the disk's one piece. 8: the schedule's one block, before which no line
-// waits. 9: the lines that wait, before the next block is asked for. 10: the schedule's end. 11: the last line.
-// 12: out. The line on Console is the call after the one that failed; a run that is done makes no call 13.
+// begin of Schedule, Report and Out. 7 to 22: the disk's 16 sectors. 23: the schedule's one block, before which no line
+// waits. 24: the lines that wait, before the next block is asked for. 25: the schedule's end. 26: the last line.
+// 27: out. The line on Console is the call after the one that failed; a run that is done makes no call 28.
 #[test]
 fn each_call_of_a_read_fails(rt: HostRuntime) -> Result<(), Fail> {
     let events = report_of_read(rt.alloc())?;
@@ -76,7 +77,7 @@ fn each_call_of_a_read_fails(rt: HostRuntime) -> Result<(), Fail> {
     whole.extend_from_slice(b"end 16\n")?;
     let (events, whole) = (events.as_slice(), whole.as_slice());
 
-    let cases: [Case<'_>; 16] = [
+    let cases: [Case<'_>; 17] = [
         (&[0], IMAGE, OLD_REPORT),
         (&[1], IMAGE, OLD_REPORT),
         (&[2], DISK, OLD_REPORT),
@@ -85,14 +86,15 @@ fn each_call_of_a_read_fails(rt: HostRuntime) -> Result<(), Fail> {
         (&[5], REPORT, OLD_REPORT),
         (&[6], OUT, b""),
         (&[7], DISK, b""),
-        (&[8], SCHEDULE, b""),
-        (&[8, 9], (SCHEDULE.0, b""), b""),
-        (&[9], REPORT, b""),
-        (&[10], SCHEDULE, events),
-        (&[11], REPORT, events),
-        (&[12], OUT, whole),
-        (&[12, 13], (OUT.0, b""), whole),
-        (&[13], DONE, whole),
+        (&[22], DISK, b""),
+        (&[23], SCHEDULE, b""),
+        (&[23, 24], (SCHEDULE.0, b""), b""),
+        (&[24], REPORT, b""),
+        (&[25], SCHEDULE, events),
+        (&[26], REPORT, events),
+        (&[27], OUT, whole),
+        (&[27, 28], (OUT.0, b""), whole),
+        (&[28], DONE, whole),
     ];
     check(&rt, rt.alloc(), READ, &cases)
 }

@@ -1,13 +1,15 @@
 //! Whole runs of `bmcast`, nearly all over files in memory: what it writes, and how it ends.
 //!
 //! It has tests alone. Start with `hosts`, the files and words that the runs have in common; then `done` for runs
-//! that are done, `refusals` for files, words and lines that are refused, `faults` for hosts that fail, and `files` for
+//! that are done, `drive` for the kinds of events, `refusals` for files, words and lines that are refused, `faults` for hosts that fail, and `files` for
 //! real files. The values are by hand from `docs/formats.md` and `docs/drive.md`.
 
 #![tactic(auto)]
 
 #[cfg(test)]
 mod done;
+#[cfg(test)]
+mod drive;
 #[cfg(test)]
 mod faults;
 #[cfg(test)]

@@ -90,7 +90,7 @@ fn lengths_of_image_and_disk(rt: HostRuntime) -> Result<(), Fail> {
 
 // A schedule, the line that is refused and why, the report, and how the line on Console goes on. The report has the
 // lines of the events before, and no last line.
-const LINES: [(&[u8], u32, LineFault, &[u8], &[u8]); 10] = [
+const LINES: [(&[u8], u32, LineFault, &[u8], &[u8]); 14] = [
     (b"", 1, LineFault::NoEnd, b"", b"1: NoEnd"),
     (b"d ok\n", 2, LineFault::NoEnd, b"1 p go 1\n", b"2: NoEnd"),
     (b"d ok", 2, LineFault::NoEnd, b"1 p go 1\n", b"2: NoEnd"),
@@ -113,6 +113,16 @@ const LINES: [(&[u8], u32, LineFault, &[u8], &[u8]); 10] = [
         b"3: Trailing",
     ),
     (&[b'#'; 4097], 1, LineFault::LongLine, b"", b"1: LongLine"),
+    (b"g wd aabbcc\nend\n", 1, LineFault::Form, b"", b"1: Form"),
+    (b"g w32 0000100\nend\n", 1, LineFault::Form, b"", b"1: Form"),
+    (
+        b"g mr 00000000 2001\nend\n",
+        1,
+        LineFault::Number,
+        b"",
+        b"1: Number",
+    ),
+    (b"d put 64\nend\n", 1, LineFault::Number, b"", b"1: Number"),
 ];
 
 #[test]

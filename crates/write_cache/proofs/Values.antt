@@ -77,6 +77,14 @@ values_of_own e = ap (λ l. reverse (map (λ (x : Entry). x.bytes) l)) (cond-tru
 values_of_another : (s : ℕ) (e : Entry) → e.sector ≢ s → values_of s (e ∷ []) ≡ []
 values_of_another s e apart = ap (λ l. reverse (map (λ (x : Entry). x.bytes) l)) (cond-false (eqb e.sector s) (e ∷ []) [] (ne_eqb e.sector s apart))
 
+-- a written entry's value is its sector's newest
+pub newest_own : (e : Entry) (xs : List Entry) → values_of e.sector (xs ++ e ∷ []) ≡ e.bytes ∷ values_of e.sector xs
+newest_own e xs = values_of-append e.sector xs (e ∷ []) ∙ ap (λ l. l ++ values_of e.sector xs) (values_of_own e)
+
+-- and no other sector's
+pub newest_another : (e : Entry) (xs : List Entry) (s : ℕ) → e.sector ≢ s → values_of s (xs ++ e ∷ []) ≡ values_of s xs
+newest_another e xs s apart = values_of-append s xs (e ∷ []) ∙ ap (λ l. l ++ values_of s xs) (values_of_another s e apart)
+
 pub newest_leads : (s : ℕ) (xs : List Entry) → option_map (λ e. e.bytes) (newest_of s xs) ≡ slice_get (values_of s xs) 0
 newest_leads s xs =
     let f = λ (e : Entry). e.bytes in

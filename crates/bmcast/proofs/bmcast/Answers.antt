@@ -13,7 +13,7 @@ pub returns-in-Err-clause-told : goal.returns-in-Err-clause-told
 returns-in-Err-clause-told g c = unless_done c.report_stop.result (told_since (status_line c.report_stop.result) (g.H.Host.outside c.args.host.now) (g.H.Host.outside c.run.new.host) (g.H.Host.outside c.report_stop.new.host) c.in-Err.stop c.in-Err.ensures.counts c.in-Err.ensures.console c.report_stop.ensures.told)
 
 pub returns-in-Err-clause-bad_line : goal.returns-in-Err-clause-bad_line
-returns-in-Err-clause-bad_line g c = rw c.report_stop.ensures.status (bad_line_status (Unit {0}) c.in-Err.stop _ _ (λ number kind. bad_line_told _ _ _ number kind c.report_stop.ensures.elsewhere) c.in-Err.ensures.bad)
+returns-in-Err-clause-bad_line g c = rw c.report_stop.ensures.status (bad_line_status (Unit {0}) c.in-Err.stop _ _ (λ number kind. bad_line_told _ _ _ _ number kind c.report_stop.ensures.elsewhere) c.in-Err.ensures.bad)
 
 pub returns-in-Err-clause-reason : goal.returns-in-Err-clause-reason
 returns-in-Err-clause-reason g c = rw c.report_stop.ensures.status c.in-Err.ensures.reason
@@ -26,5 +26,5 @@ returns-in-Ok-clause-owed g c = owed_answer (texts c.args.words.now) (g.H.Host.o
 
 pub returns-in-Err-clause-owed : goal.returns-in-Err-clause-owed
 returns-in-Err-clause-owed g c = rw c.report_stop.ensures.status (owed_stop (texts c.args.words.now) (g.H.Host.outside c.args.host.now) (g.H.Host.outside c.report_stop.new.host) c.in-Err.stop c.in-Err.ensures.reason
-    (bad_line_status (Unit {0}) c.in-Err.stop _ _ (λ number kind. bad_line_told _ _ _ number kind c.report_stop.ensures.elsewhere) c.in-Err.ensures.bad)
+    (bad_line_status (Unit {0}) c.in-Err.stop _ _ (λ number kind. bad_line_told _ _ _ _ number kind c.report_stop.ensures.elsewhere) c.in-Err.ensures.bad)
     (caused _ _ _ c.in-Err.stop c.in-Err.ensures.counts c.report_stop.ensures.counts))

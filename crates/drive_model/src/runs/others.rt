@@ -95,8 +95,8 @@ fn commands_without_a_range(rt: HostRuntime) -> Result<(), Fail> {
         ),
     ];
     for (name, acts) in runs {
-        let mut drive = four_sectors(rt.alloc())?;
-        assert_eq!(rt; first_wrong(&mut drive, acts), None, "{name}");
+        let mut bench = four_sectors(rt.alloc())?;
+        assert_eq!(rt; first_wrong(&mut bench, acts), None, "{name}");
     }
     Ok(())
 }
@@ -191,8 +191,8 @@ fn verified_and_refused(rt: HostRuntime) -> Result<(), Fail> {
         ),
     ];
     for (name, acts) in runs {
-        let mut drive = four_sectors(rt.alloc())?;
-        assert_eq!(rt; first_wrong(&mut drive, acts), None, "{name}");
+        let mut bench = four_sectors(rt.alloc())?;
+        assert_eq!(rt; first_wrong(&mut bench, acts), None, "{name}");
     }
     Ok(())
 }
@@ -200,7 +200,7 @@ fn verified_and_refused(rt: HostRuntime) -> Result<(), Fail> {
 // Without a walk a good step has nothing to do. A failure ends the walk of its own command, and active stays 1.
 #[test]
 fn commands_by_dma(rt: HostRuntime) -> Result<(), Fail> {
-    use Act::{Durable, Fails, Narrow, Quiet, Read, Shows, Walks, Wide, Write};
+    use Act::{Fails, Narrow, Quiet, Read, Reads, Shows, Walks, Wide, Write};
     use Reg::{BusCommand, BusStatus};
 
     let runs: [(&str, &[Act]); 7] = [
@@ -212,7 +212,7 @@ fn commands_by_dma(rt: HostRuntime) -> Result<(), Fail> {
                 Quiet(0x80),
                 Fails(Bad, 0x40, 1),
                 Shows(0x40, 0x77),
-                Durable(1, 0x11),
+                Reads(1, 0x11),
                 NO_BAD,
             ],
         ),
@@ -224,7 +224,7 @@ fn commands_by_dma(rt: HostRuntime) -> Result<(), Fail> {
                 Quiet(0x80),
                 Fails(Bad, 0x40, 1),
                 Shows(0x45, 0x00),
-                Durable(1, 0x11),
+                Reads(1, 0x11),
                 NO_BAD,
             ],
         ),
@@ -236,7 +236,7 @@ fn commands_by_dma(rt: HostRuntime) -> Result<(), Fail> {
                 Quiet(0x80),
                 Fails(Bad, 0x04, 1),
                 Shows(0x40, 0x77),
-                Durable(1, 0x11),
+                Reads(1, 0x11),
                 NO_BAD,
             ],
         ),
@@ -248,7 +248,7 @@ fn commands_by_dma(rt: HostRuntime) -> Result<(), Fail> {
                 Quiet(0x80),
                 Fails(Bad, 0x04, 1),
                 Shows(0x45, 0x00),
-                Durable(1, 0x11),
+                Reads(1, 0x11),
                 NO_BAD,
             ],
         ),
@@ -283,8 +283,8 @@ fn commands_by_dma(rt: HostRuntime) -> Result<(), Fail> {
         ),
     ];
     for (name, acts) in runs {
-        let mut drive = four_sectors(rt.alloc())?;
-        assert_eq!(rt; first_wrong(&mut drive, acts), None, "{name}");
+        let mut bench = four_sectors(rt.alloc())?;
+        assert_eq!(rt; first_wrong(&mut bench, acts), None, "{name}");
     }
     Ok(())
 }
@@ -292,7 +292,7 @@ fn commands_by_dma(rt: HostRuntime) -> Result<(), Fail> {
 // A reset ends what is in hand without an interrupt, and goes on as long as SRST is 1.
 #[test]
 fn resets(rt: HostRuntime) -> Result<(), Fail> {
-    use Act::{Durable, Give, Line, Narrow, Offers, Quiet, Resets, Take, Wants, Wide, Word, Write};
+    use Act::{Give, Line, Narrow, Offers, Quiet, Reads, Resets, Take, Wants, Wide, Word, Write};
     use Reg::Alternate;
 
     let runs: [(&str, &[Act]); 9] = [
@@ -342,7 +342,7 @@ fn resets(rt: HostRuntime) -> Result<(), Fail> {
                 Word(0x1234),
                 Write(Alternate, 0x04),
                 Resets,
-                Durable(2, 0x12),
+                Reads(2, 0x12),
             ],
         ),
         (
@@ -353,7 +353,7 @@ fn resets(rt: HostRuntime) -> Result<(), Fail> {
                 Give(0xa2),
                 Write(Alternate, 0x04),
                 Resets,
-                Durable(2, 0x12),
+                Reads(2, 0x12),
             ],
         ),
         (
@@ -362,8 +362,8 @@ fn resets(rt: HostRuntime) -> Result<(), Fail> {
         ),
     ];
     for (name, acts) in runs {
-        let mut drive = four_sectors(rt.alloc())?;
-        assert_eq!(rt; first_wrong(&mut drive, acts), None, "{name}");
+        let mut bench = four_sectors(rt.alloc())?;
+        assert_eq!(rt; first_wrong(&mut bench, acts), None, "{name}");
     }
     Ok(())
 }

@@ -129,8 +129,8 @@ fn reads_by_pio(rt: HostRuntime) -> Result<(), Fail> {
         ),
     ];
     for (name, acts) in runs {
-        let mut drive = four_sectors(rt.alloc())?;
-        assert_eq!(rt; first_wrong(&mut drive, acts), None, "{name}");
+        let mut bench = four_sectors(rt.alloc())?;
+        assert_eq!(rt; first_wrong(&mut bench, acts), None, "{name}");
     }
     Ok(())
 }
@@ -138,7 +138,7 @@ fn reads_by_pio(rt: HostRuntime) -> Result<(), Fail> {
 // The first block is wanted without an interrupt, and each block that was written has one.
 #[test]
 fn writes_by_pio(rt: HostRuntime) -> Result<(), Fail> {
-    use Act::{Durable, Ends, Give, Kept, Narrow, Offers, Quiet, Take, Wants, Wide};
+    use Act::{Ends, Give, Kept, Narrow, Offers, Quiet, Reads, Take, Wants, Wide};
 
     let runs: [(&str, &[Act]); 6] = [
         (
@@ -151,9 +151,9 @@ fn writes_by_pio(rt: HostRuntime) -> Result<(), Fail> {
                 Give(0xa1),
                 Quiet(0x80),
                 Ends,
-                Durable(0, 0x10),
-                Durable(1, 0xa1),
-                Durable(2, 0x12),
+                Reads(0, 0x10),
+                Reads(1, 0xa1),
+                Reads(2, 0x12),
             ],
         ),
         (
@@ -165,9 +165,9 @@ fn writes_by_pio(rt: HostRuntime) -> Result<(), Fail> {
                 Offers,
                 Give(0xa2),
                 Ends,
-                Durable(1, 0xa1),
-                Durable(2, 0xa2),
                 Kept(2, 1),
+                Reads(1, 0xa1),
+                Reads(2, 0xa2),
             ],
         ),
         (
@@ -180,9 +180,9 @@ fn writes_by_pio(rt: HostRuntime) -> Result<(), Fail> {
                 Give(0xa1),
                 Quiet(0x80),
                 Ends,
-                Durable(0, 0x10),
-                Durable(1, 0xa1),
-                Durable(2, 0x12),
+                Reads(0, 0x10),
+                Reads(1, 0xa1),
+                Reads(2, 0x12),
             ],
         ),
         (
@@ -194,9 +194,9 @@ fn writes_by_pio(rt: HostRuntime) -> Result<(), Fail> {
                 Offers,
                 Give(0xa2),
                 Ends,
-                Durable(1, 0xa1),
-                Durable(2, 0xa2),
                 Kept(2, 1),
+                Reads(1, 0xa1),
+                Reads(2, 0xa2),
             ],
         ),
         (
@@ -223,13 +223,13 @@ fn writes_by_pio(rt: HostRuntime) -> Result<(), Fail> {
                 Wants,
                 Give(0xb1),
                 Ends,
-                Durable(0, 0xb1),
+                Reads(0, 0xb1),
             ],
         ),
     ];
     for (name, acts) in runs {
-        let mut drive = four_sectors(rt.alloc())?;
-        assert_eq!(rt; first_wrong(&mut drive, acts), None, "{name}");
+        let mut bench = four_sectors(rt.alloc())?;
+        assert_eq!(rt; first_wrong(&mut bench, acts), None, "{name}");
     }
     Ok(())
 }
@@ -237,7 +237,7 @@ fn writes_by_pio(rt: HostRuntime) -> Result<(), Fail> {
 // A failure shows the sector of the block that came last, or the first, and moves nothing.
 #[test]
 fn failed_writes_by_pio(rt: HostRuntime) -> Result<(), Fail> {
-    use Act::{Durable, Fails, Give, Narrow, Offers, Quiet, Shows, Wants, Wide, Word};
+    use Act::{Durable, Fails, Give, Narrow, Offers, Quiet, Reads, Shows, Wants, Wide, Word};
 
     let runs: [(&str, &[Act]); 7] = [
         (
@@ -252,7 +252,7 @@ fn failed_writes_by_pio(rt: HostRuntime) -> Result<(), Fail> {
                 Give(0xa1),
                 Fails(Bad, 0x04, 1),
                 Shows(0x40, 0x77),
-                Durable(1, 0x11),
+                Reads(1, 0x11),
             ],
         ),
         (
@@ -265,8 +265,8 @@ fn failed_writes_by_pio(rt: HostRuntime) -> Result<(), Fail> {
                 Give(0xa2),
                 Fails(Bad, 0x04, 2),
                 Shows(0x40, 0x77),
-                Durable(1, 0xa1),
-                Durable(2, 0x12),
+                Reads(1, 0xa1),
+                Reads(2, 0x12),
             ],
         ),
         (
@@ -281,7 +281,7 @@ fn failed_writes_by_pio(rt: HostRuntime) -> Result<(), Fail> {
                 Give(0xa1),
                 Fails(Bad, 0x04, 1),
                 Shows(0x45, 0x00),
-                Durable(1, 0x11),
+                Reads(1, 0x11),
             ],
         ),
         (
@@ -294,8 +294,8 @@ fn failed_writes_by_pio(rt: HostRuntime) -> Result<(), Fail> {
                 Give(0xa2),
                 Fails(Bad, 0x04, 2),
                 Shows(0x45, 0x00),
-                Durable(1, 0xa1),
-                Durable(2, 0x12),
+                Reads(1, 0xa1),
+                Reads(2, 0x12),
             ],
         ),
         (
@@ -311,8 +311,8 @@ fn failed_writes_by_pio(rt: HostRuntime) -> Result<(), Fail> {
         ),
     ];
     for (name, acts) in runs {
-        let mut drive = four_sectors(rt.alloc())?;
-        assert_eq!(rt; first_wrong(&mut drive, acts), None, "{name}");
+        let mut bench = four_sectors(rt.alloc())?;
+        assert_eq!(rt; first_wrong(&mut bench, acts), None, "{name}");
     }
     Ok(())
 }

@@ -1,9 +1,7 @@
-use Rattle.std.proofs.Common.{◌-◌, vec_len}
+use Rattle.std.proofs.Common.{length}
+use Rattle.bmcast.specs.Machine.{list_of}
 use Rattle.bmcast.proofs.DiskLaws.{ReadsFront}
 use Rattle.bmcast.proofs.disk.read_disk.Given as goal
 
-abbrev pub invariant-loop-host : goal.invariant-loop-host
-invariant-loop-host g l = ReadsFront (g.H.Host.outside l.initial.host) (g.H.Host.outside l.host) l.size l.bytes.items
-
-abbrev pub decreases-loop-host : goal.decreases-loop-host
-decreases-loop-host g l = l.size - vec_len l.bytes
+abbrev pub invariant-loop-sector : goal.invariant-loop-sector
+invariant-loop-sector g l = ReadsFront (g.H.Host.outside l.initial.host) (g.H.Host.outside l.host) (length (list_of l.initial.store)) (list_of l.store) l.sector

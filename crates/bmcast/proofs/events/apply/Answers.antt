@@ -1,15 +1,21 @@
-use Rattle.std.proofs.Common.{arith}
-use Rattle.plain_run.proofs.Unwritten.{event-block}
-use Rattle.bmcast.proofs.EventLaws.{DirectEvent-noted}
+use Rattle.std.proofs.Common.{[], ap, sym, ◌∙◌}
+use Rattle.ata_taskfile.specs.declared.task_file.TaskFile.{TaskFile}
+use Rattle.bmcast.specs.Machine.{physical}
+use Rattle.plain_run.specs.Taken.{is_just_taken}
+use Rattle.plain_run.proofs.Noted.{drive_event_noted, drive_event_unnoted}
 use Rattle.bmcast.proofs.events.apply.Goals as goal
 
-pub returns-then-not-was_taken-clause-event : goal.returns-then-not-was_taken-clause-event
-returns-then-not-was_taken-clause-event c =
-    rw (c.note_command.ensures.items, c.note_command.ensures.bytes, c.file-then-not-was_taken.ensures)
-    (DirectEvent-noted _ _ _ _ _ c.act.ensures.event c.act.ensures.commands (grind arith))
+pub returns-then-not-was_taken : goal.returns-then-not-was_taken
+returns-then-not-was_taken c =
+    let before = ap (λ (f : TaskFile). is_just_taken f.phase) (sym (c.file.ensures [])) ∙ sym c.is_just_taken-was_taken.ensures ∙ c.if-not-was_taken.true in
+    record {
+      event = rw (c.note_command.ensures.items, c.note_command.ensures.bytes, c.file-then-not-was_taken.ensures [])
+          (drive_event_noted _ _ _ (physical c.args.machine.now) (physical c.act.new.machine) c.act.ensures.after c.act.ensures.answered c.act.ensures.planned c.act.ensures.commands before);
+    }
 
-pub returns-then-not-was_taken-clause-unwritten : goal.returns-then-not-was_taken-clause-unwritten
-returns-then-not-was_taken-clause-unwritten c = event-block _ _ _ c.act.ensures.event c.requires.unwritten
-
-pub returns-else-not-was_taken-clause-unwritten : goal.returns-else-not-was_taken-clause-unwritten
-returns-else-not-was_taken-clause-unwritten c = event-block _ _ _ c.act.ensures.event c.requires.unwritten
+pub returns-else-not-was_taken : goal.returns-else-not-was_taken
+returns-else-not-was_taken c =
+    let before = ap (λ (f : TaskFile). is_just_taken f.phase) (sym (c.file.ensures [])) ∙ sym c.is_just_taken-was_taken.ensures ∙ c.if-not-was_taken.false in
+    record {
+      event = drive_event_unnoted _ _ _ (physical c.args.machine.now) (physical c.act.new.machine) c.act.ensures.after c.act.ensures.answered c.act.ensures.planned c.act.ensures.commands before;
+    }

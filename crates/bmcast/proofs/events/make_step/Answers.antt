@@ -1,20 +1,17 @@
-use Rattle.std.proofs.Common.{[], refl, sym, ◌∙◌}
-use Rattle.plain_drive.specs.Plain.{plain, sectors_in}
-use Rattle.drive_model.specs.Drive.{device_of}
-use Rattle.drive_model.proofs.Writes.{good_step-durable}
-use Rattle.bmcast.proofs.EventLaws.{PlainEvent-step, PlainEvent-idle}
+use Rattle.std.proofs.Common.{sym, ◌∙◌}
+use Rattle.plain_drive.specs.Physical.{seen}
+use Rattle.plain_drive.specs.Step.{acts}
+use Rattle.bmcast.specs.Machine.{physical}
+use Rattle.bmcast.proofs.EventLaws.{step_told, step_untold}
 use Rattle.bmcast.proofs.events.make_step.Goals as goal
 
-pub returns-in-Changed-clause-event : goal.returns-in-Changed-clause-event
-returns-in-Changed-clause-event c =
-    let drive = c.args.drive.now in
-    let same = good_step-durable (plain (device_of drive) []) (sectors_in drive.sectors drive.bytes.items) refl c.requires.unwritten in
-    rw (c.requires.built, c.push.ensures.items, c.requires.items, c.requires.bytes)
-    (PlainEvent-step _ _ (sym same ∙ (rw c.requires.built at (c.step.ensures.after []))) (rw c.requires.built at (c.in-Changed.ensures.answer [])))
+pub returns-clause-planned : goal.returns-clause-planned
+returns-clause-planned c =
+    step_told c.args.step (acts c.args.step (seen (physical c.args.machine.now))) _
+    (sym c.in_default.is ∙ (rw c.unwrap-stepped.ensures at c.step.ensures.answer))
+    (rw (c.requires.items, c.step_item.ensures) at c.push.ensures.items)
 
-pub returns-in_default-clause-event : goal.returns-in_default-clause-event
-returns-in_default-clause-event c =
-    let drive = c.args.drive.now in
-    let same = good_step-durable (plain (device_of drive) []) (sectors_in drive.sectors drive.bytes.items) refl c.requires.unwritten in
-    rw (c.requires.built, c.requires.items, c.requires.bytes)
-    (PlainEvent-idle _ _ (sym same ∙ (rw c.requires.built at (c.step.ensures.after []))) (rw c.requires.built at (c.in_default.ensures.answer [])))
+pub returns-in-Nothing-clause-planned : goal.returns-in-Nothing-clause-planned
+returns-in-Nothing-clause-planned c =
+    step_untold c.args.step (acts c.args.step (seen (physical c.args.machine.now))) _
+    (sym c.in-Nothing.is ∙ (rw c.unwrap-stepped.ensures at c.step.ensures.answer)) c.requires.items

@@ -6,10 +6,12 @@ use Rattle.bmcast.proofs.Reasons.{late_reason, early_reason, early_no_bad_line}
 use Rattle.bmcast.proofs.run.run.Goals as goal
 
 pub returns-clause-done : goal.returns-clause-done
-returns-clause-done g c = on_ok_weaker c.run_events.result (done_from _ _ _ c.in-Ok.ensures.files) c.run_events.ensures.done
+returns-clause-done g c = on_ok_weaker c.run_events.result
+    (λ done. record { choice = seen c.in-Some.options; says = c.in-Some.ensures.found; holds = done_from _ _ _ _ c.in-Ok.ensures.files done }) c.run_events.ensures.done
 
 pub returns-clause-bad : goal.returns-clause-bad
-returns-clause-bad g c = bad_line_weaker c.run_events.result _ _ (λ number kind. bad_line_since _ _ _ number kind c.in-Ok.ensures.files) c.run_events.ensures.bad
+returns-clause-bad g c = bad_line_weaker c.run_events.result _ _
+    (λ number kind bad. record { choice = seen c.in-Some.options; says = c.in-Some.ensures.found; holds = bad_line_since _ _ _ _ number kind c.in-Ok.ensures.files bad }) c.run_events.ensures.bad
 
 pub returns-clause-reason : goal.returns-clause-reason
 returns-clause-reason g c = late_reason _ _ (seen c.in-Some.options) c.run_events.result c.in-Some.ensures.found c.in-Ok.ensures.suitable c.run_events.ensures.late

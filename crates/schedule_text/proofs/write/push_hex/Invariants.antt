@@ -1,5 +1,5 @@
 use Rattle.std.proofs.Common.{◌≡◌, ◌++◌, ◌+◌, ◌*◌, length, take}
-use Rattle.schedule_text.specs.Report.{hex_text}
+use Rattle.schedule_text.specs.Line.{hex_text}
 use Rattle.schedule_text.proofs.write.push_hex.Given as goal
 
 abbrev pub invariant-loop-byte : goal.invariant-loop-byte

@@ -1,27 +1,26 @@
-use Rattle.std.proofs.Common.{◌≡◌, ◌+◌, ◌*◌, ◌-◌, ◌≤◌, length, take, sym, ap, ◌∙◌, arith}
-use Rattle.std.proofs.lemmas.List.{with_items_is}
-use Rattle.plain_drive.specs.Plain.{stored, sectors_in}
+use Rattle.std.proofs.Common.{◌≡◌, ◌+◌, ◌-◌, [], ap, subst, sym, ◌∙◌, length, take, arith}
+use Rattle.drive_store.specs.Store.{Becomes}
 use Rattle.plain_drive.specs.Words.{bytes_of}
-use Rattle.drive_model.specs.Drive.{device_of}
-use Rattle.drive_model.proofs.Sectors.{sector_written, length_put}
-use Rattle.drive_model.proofs.Blocks.{whole_block, length_bytes}
+use Rattle.plain_drive.specs.Change.{writes}
+use Rattle.plain_drive.specs.Physical.{kept_after}
+use Rattle.plain_drive.specs.Step.{next_wanted}
+use Rattle.plain_drive.proofs.Ends.{block_whole}
+use Rattle.drive_model.specs.declared.cached_store.CachedStore.{CachedStore}
+use Rattle.drive_model.specs.CachedStore.{kept_of}
+use Rattle.drive_model.specs.Drive.{physical_of}
+use Rattle.drive_model.proofs.Blocks.{whole_block}
+use Rattle.drive_model.proofs.Worked.{next_blind, worked_becomes}
 use Rattle.drive_model.proofs.drive.Drive.write_block.Goals as goal
 
-pub returns-clause-written : goal.returns-clause-written
-returns-clause-written c =
-    let n = c.args.self.now.sectors in
-    let s = c.args.sector in
-    let bytes = c.args.self.now.bytes in
-    let whole : length c.args.self.now.block ≡ 256 = omega arith in
-    let all : take c.args.self.now.words c.args.self.now.block ≡ c.args.self.now.block = rw c.requires.whole (whole_block c.args.self.now.block whole) in
-    let value : c.copy_from_slice.new.self ≡ bytes_of (take c.args.self.now.words c.args.self.now.block) =
-    c.copy_from_slice.ensures.after ∙ c.bytes_of.ensures ∙ ap bytes_of (sym all) in
-    let long : length (bytes_of (take c.args.self.now.words c.args.self.now.block)) ≡ 512 = rw all (length_bytes c.args.self.now.block whole) in
-    let size : s * 512 + 512 - s * 512 ≡ 512 = omega arith in
-    let enough : length bytes.items ≡ 512 * n = c.args.self.now.whole in
-    let within = c.requires.within in
-    let room : s * 512 + (s * 512 + 512 - s * 512) ≤ length bytes.items = omega arith in
-    let kept = length_put (s * 512) (s * 512 + 512 - s * 512) bytes.items c.deref_mut.result.now c.copy_from_slice.new.self c.deref_mut.ensures.value (ap length value ∙ long ∙ sym size) room in
-    ap (λ items. record (device_of c.args.self.now) { cells = stored (sectors_in n items) }) (with_items_is bytes _ (kept ∙ sym bytes.ok.0))
-    ∙ ap (λ cells. record (device_of c.args.self.now) { cells = cells })
-    (sector_written n s _ bytes.items _ _ _ c.deref_mut.ensures.value value within size enough long)
+pub returns-clause-after : goal.returns-clause-after
+returns-clause-after g c =
+    let order = c.args.order in let done = c.args.done in let d = c.args.self.now in
+    let stays = ap (λ (s : CachedStore _ g.S.Store). (g.S.Store.sectors s.store).told) c.want_next.ensures.sectors in
+    let full : d.words ≡ 256 = block_whole d.file d.bus d.words _ order done c.requires.phase c.requires.takes c.requires.came d.lawful in
+    let size : length d.block ≡ 256 = omega arith in
+    let all : take d.words d.block ≡ d.block = ap (λ n. take n d.block) full ∙ whole_block d.block size in
+    let bytes : c.bytes_of.result ≡ bytes_of (take d.words d.block) = c.bytes_of.ensures ∙ ap bytes_of (sym all) in
+    let put = subst (λ v. Becomes (λ _ _. kept_of c.put.new.self ≡ kept_after (writes (order.first + (done - 1)) v) (kept_of d.sectors))
+    (g.S.Store.sectors d.sectors.store).told (g.S.Store.sectors c.put.new.self.store).told) bytes c.in_ok-put.ensures.after in
+    worked_becomes (next_wanted order done) (next_blind order done) (writes (order.first + (done - 1)) (bytes_of (take d.words d.block)))
+    (physical_of d []) _ _ _ _ _ _ c.in_ok-put.ensures.count stays c.want_next.ensures.after put

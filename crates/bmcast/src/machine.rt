@@ -1,0 +1,89 @@
+//! The drive and the guest's memory, as a run without a monitor has them.
+
+ghost use Rattle.std.specs.Prelude.{◌≤◌, length};
+ghost use Rattle.ata_taskfile.specs.Device.{after_read8, after_read_word, after_write8, after_write_pointer, after_write_word, byte_read, line_read, pointer_read, word_read};
+
+use ata_taskfile::{Ports, Reg};
+use bm_dma::GuestMemory;
+use drive_model::Drive;
+use drive_store::MemoryStore;
+
+/// A drive whose sectors are in memory, and the guest's memory, which its bus master reaches.
+///
+/// A contract sees the two as one physical drive (`physical` of `specs/Machine.antt`).
+#[derive(Drop)]
+pub struct Machine {
+    pub drive: Drive<MemoryStore>,
+    pub memory: GuestMemory,
+    ghost few: { length memory ≤ 16777216 },
+}
+
+impl Machine {
+    ghost use Rattle.std.specs.Prelude.{◌≡◌, slice_set};
+    ghost use Rattle.bm_dma.specs.Memory.{byte_at};
+    ghost use Rattle.bmcast.specs.Machine.{device, physical, with_device, with_memory};
+
+    /// The guest reads a register.
+    #[tactic(auto, using(crate::proofs::Machines::reached))]
+    pub fn read8(&mut self, reg: Reg) -> u8
+        ensures answer { result ≡ byte_read reg (device self.old) }
+        ensures after { physical self.new ≡ with_device (after_read8 reg (device self.old)) (physical self.old) }
+    {
+        self.drive.read8(reg)
+    }
+
+    /// The guest writes a register.
+    #[tactic(auto, using(crate::proofs::Machines::reached))]
+    pub fn write8(&mut self, reg: Reg, v: u8)
+        ensures after { physical self.new ≡ with_device (after_write8 reg v (device self.old)) (physical self.old) }
+    {
+        self.drive.write8(reg, v);
+    }
+
+    /// The guest reads a word from Data.
+    #[tactic(auto, using(crate::proofs::Machines::reached))]
+    pub fn read_word(&mut self) -> u16
+        ensures answer { result ≡ word_read (device self.old) }
+        ensures after { physical self.new ≡ with_device (after_read_word (device self.old)) (physical self.old) }
+    {
+        self.drive.read_word()
+    }
+
+    /// The guest writes a word to Data.
+    #[tactic(auto, using(crate::proofs::Machines::reached))]
+    pub fn write_word(&mut self, w: u16)
+        ensures after { physical self.new ≡ with_device (after_write_word w (device self.old)) (physical self.old) }
+    {
+        self.drive.write_word(w);
+    }
+
+    /// The guest writes the pointer to the descriptor table.
+    #[tactic(auto, using(crate::proofs::Machines::reached))]
+    pub fn write_pointer(&mut self, v: u32)
+        ensures after { physical self.new ≡ with_device (after_write_pointer v (device self.old)) (physical self.old) }
+    {
+        self.drive.write_pointer(v);
+    }
+
+    /// The byte of the guest's memory at a place; FFh outside of it (own).
+    #[tactic(auto, using(crate::proofs::Machines::outside))]
+    pub fn byte(&self, place: u64) -> u8
+        ensures { result ≡ byte_at self.now.memory place }
+    {
+        match u32::try_from(place) {
+            Ok(address) => self.memory.get(address),
+            Err(_) => 0xff,
+        }
+    }
+
+    /// Sets the byte of the guest's memory at a place; outside of it nothing happens (own).
+    #[tactic(auto, using(crate::proofs::Machines::outside_set))]
+    pub fn set_byte(&mut self, place: u64, v: u8)
+        ensures after { physical self.new ≡ with_memory (slice_set self.old.memory place v) (physical self.old) }
+        ensures memory { self.new.memory ≡ slice_set self.old.memory place v }
+    {
+        if let Ok(address) = u32::try_from(place) {
+            self.memory.set(address, v);
+        }
+    }
+}

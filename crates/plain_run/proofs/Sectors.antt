@@ -1,0 +1,119 @@
+-- What a run of a physical drive does to its sectors.
+use Rattle.std.proofs.Common.{◌≡◌, ℕ, Bool, true, false, zero, suc, List, [], ◌∷◌, length, refl, ap, ◌∙◌}
+use Rattle.std.specs.Prelude.{if◌then◌else◌, ◌==◌, nat_lt}
+use Rattle.ata_taskfile.specs.declared.Access.TheVariants as access
+use Rattle.ata_taskfile.specs.declared.Form.{Form}
+use Rattle.ata_taskfile.specs.declared.Form.TheVariants.{NoMove, PioIn, PioOut, DmaIn, DmaOut}
+use Rattle.ata_taskfile.specs.declared.Request.{Request}
+use Rattle.ata_taskfile.specs.declared.Taken.TheVariants.{Good, Bad}
+use Rattle.ata_taskfile.specs.declared.Phase.{Phase}
+use Rattle.ata_taskfile.specs.declared.Phase.TheVariants.{Reset, Idle, Busy, Ready}
+use Rattle.ata_taskfile.specs.declared.Step.{Step}
+use Rattle.ata_taskfile.specs.declared.Step.TheVariants as step
+use Rattle.ata_taskfile.specs.TaskFile.{holds_reset, reset_ended}
+use Rattle.ata_taskfile.specs.Bus.{walk_ended}
+use Rattle.ata_taskfile.specs.Data.{moves_by_bus}
+use Rattle.ata_taskfile.specs.Device.{Device, with_bus, after_read_word, after_write_word}
+use Rattle.ata_taskfile.proofs.Cells.{accessed-sectors}
+use Rattle.plain_drive.specs.Plain.{Plain, with_registers, words_of}
+use Rattle.plain_drive.specs.Words.{after_words, after_written}
+use Rattle.plain_drive.specs.Change.{change_made}
+use Rattle.plain_drive.specs.Step.{step_made, stepped, failed_step, proceeded, sector_given, transferred, walked, first_wanted, next_wanted, offered, ended, without_walk}
+use Rattle.plain_drive.specs.Physical.{Physical, seen}
+use Rattle.schedule_text.specs.declared.Event.{Event}
+use Rattle.schedule_text.specs.declared.Event.TheVariants as event
+use Rattle.plain_run.specs.Entry.{Entry}
+use Rattle.plain_run.specs.Run.{IsDriveRun, physical_event}
+use Rattle.plain_run.proofs.Kept.{after_length, destaged_length}
+
+-- no access changes how many sectors the drive says it has
+words_sectors : (n : ℕ) (d : Device) → (after_words n d).sectors ≡ d.sectors
+unfolding after_words
+words_sectors zero d = refl
+words_sectors (suc n) d = words_sectors n (after_read_word d)
+
+written_sectors : (words : List ℕ) (d : Device) → (after_written words d).sectors ≡ d.sectors
+unfolding after_written
+written_sectors [] d = refl
+written_sectors (w ∷ words) d = written_sectors words (after_write_word w d)
+
+-- nor does a step
+chosen_sectors : (b : Bool) (n : ℕ) (p q : Plain) → p.device.sectors ≡ n → q.device.sectors ≡ n → (if b then p else q).device.sectors ≡ n
+chosen_sectors true n p q one other = one
+chosen_sectors false n p q one other = other
+
+walk_sectors : (form : Form) (p : Plain) → (without_walk form p).device.sectors ≡ p.device.sectors
+walk_sectors form p = chosen_sectors (moves_by_bus form) p.device.sectors (record p { device = with_bus (walk_ended p.device.bus) p.device }) p refl refl
+
+proceeded_sectors : (form : Form) (order : Request) (done : ℕ) (p : Plain) → (proceeded form order done p).device.sectors ≡ p.device.sectors
+proceeded_sectors NoMove order done p = refl
+proceeded_sectors PioIn order done p = refl
+proceeded_sectors PioOut order done p =
+    chosen_sectors (done == 0) p.device.sectors (first_wanted order p) (next_wanted order done p) refl
+    (chosen_sectors (nat_lt done order.count) p.device.sectors (offered order done [] p) (ended p) refl refl)
+proceeded_sectors DmaIn order done p =
+    chosen_sectors (nat_lt done order.count) p.device.sectors (sector_given order done p) (transferred order p) refl (walk_sectors order.form p)
+proceeded_sectors DmaOut order done p =
+    chosen_sectors (nat_lt done order.count) p.device.sectors (walked order done p) (transferred order p) refl (walk_sectors order.form p)
+
+stepped_sectors : (phase : Phase) (p : Plain) → (stepped phase p).device.sectors ≡ p.device.sectors
+stepped_sectors Reset p = chosen_sectors (holds_reset p.device.file) p.device.sectors p (with_registers (reset_ended p.device.file) p) refl refl
+stepped_sectors Idle p = refl
+stepped_sectors (Ready taken done left) p = refl
+stepped_sectors (Busy (Bad reason) done) p = refl
+stepped_sectors (Busy (Good order) done) p = proceeded_sectors order.form order done p
+
+failed_sectors : (phase : Phase) (p : Plain) → (failed_step phase p).device.sectors ≡ p.device.sectors
+failed_sectors Reset p = refl
+failed_sectors Idle p = refl
+failed_sectors (Ready taken done left) p = refl
+failed_sectors (Busy (Bad reason) done) p = refl
+failed_sectors (Busy (Good order) done) p = walk_sectors order.form p
+
+step_sectors : (s : Step) (p : Plain) → (step_made s p).device.sectors ≡ p.device.sectors
+step_sectors step.Good p = stepped_sectors p.device.file.phase p
+step_sectors step.Bad p = failed_sectors p.device.file.phase p
+
+pub event_sectors : (one : Event) (q : Physical) → (physical_event one q).sectors ≡ q.sectors
+event_sectors (event.Read8 r) q = accessed-sectors (access.Read8 r) (seen q).device
+event_sectors (event.Write8 r v) q = accessed-sectors (access.Write8 r v) (seen q).device
+event_sectors (event.ReadWords n) q = words_sectors n (seen q).device
+event_sectors (event.WriteWords bytes) q = written_sectors (words_of bytes) (seen q).device
+event_sectors event.ReadPointer q = refl
+event_sectors (event.WritePointer v) q = refl
+event_sectors (event.ReadMemory address n) q = refl
+event_sectors (event.WriteMemory address bytes) q = refl
+event_sectors event.Line q = refl
+event_sectors (event.Drive s) q = step_sectors s (seen q)
+event_sectors (event.Destage k) q = refl
+event_sectors event.Cut q = refl
+event_sectors event.Remark q = refl
+event_sectors event.End q = refl
+
+-- or how many it keeps
+pub event_length : (one : Event) (q : Physical) → length (physical_event one q).kept.durable ≡ length q.kept.durable
+event_length (event.Read8 r) q = refl
+event_length (event.Write8 r v) q = refl
+event_length (event.ReadWords n) q = refl
+event_length (event.WriteWords bytes) q = refl
+event_length event.ReadPointer q = refl
+event_length (event.WritePointer v) q = refl
+event_length (event.ReadMemory address n) q = refl
+event_length (event.WriteMemory address bytes) q = refl
+event_length event.Line q = refl
+event_length (event.Drive s) q = after_length (change_made s (seen q)) q.kept
+event_length (event.Destage k) q = destaged_length k q.kept
+event_length event.Cut q = refl
+event_length event.Remark q = refl
+event_length event.End q = refl
+
+-- so a run has as many sectors at its end as at its start
+pub run_sectors : (start now : Physical) (entries : List Entry) → IsDriveRun start entries now → now.sectors ≡ start.sectors
+run_sectors start now [] run = ap (λ (q : Physical). q.sectors) run
+run_sectors start now (entry ∷ earlier) (before, run, last) =
+    ap (λ (q : Physical). q.sectors) last.after ∙ event_sectors entry.event before ∙ run_sectors start before earlier run
+
+pub run_length : (start now : Physical) (entries : List Entry) → IsDriveRun start entries now → length now.kept.durable ≡ length start.kept.durable
+run_length start now [] run = ap (λ (q : Physical). length q.kept.durable) run
+run_length start now (entry ∷ earlier) (before, run, last) =
+    ap (λ (q : Physical). length q.kept.durable) last.after ∙ event_length entry.event before ∙ run_length start before earlier run

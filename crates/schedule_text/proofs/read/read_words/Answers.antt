@@ -1,0 +1,6 @@
+use Rattle.std.proofs.Common.{arith}
+use Rattle.schedule_text.proofs.Forms.{words_fault}
+use Rattle.schedule_text.proofs.read.read_words.Goals as goal
+
+pub returns-in-Err : goal.returns-in-Err
+returns-in-Err c = record { reads = words_fault c.args.digits.now c.in-Err.fault (omega arith) c.in-Err.ensures.number }

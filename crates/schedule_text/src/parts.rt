@@ -1,0 +1,177 @@
+//! The parts of a schedule's line: names of registers, hexadecimal and decimal numbers.
+
+ghost use Rattle.std.specs.Prelude.{◌≡◌, ◌≢◌, ◌<◌, ◌≤◌, ◌^◌, ◌++◌, ◌∷◌, [], ◌↔◌, ℕ, List};
+ghost use Rattle.std.specs.Prelude.{length, IsTrue, IfSome, SomeIff, MatchOption};
+ghost use Rattle.std.specs.List.{list_all};
+ghost use Rattle.std.specs.Char.{is_ascii_digit};
+ghost use Rattle.std.specs.Str.Parse.{digits_value};
+ghost use Rattle.ata_taskfile.specs.declared.Reg.{Reg as RegOf};
+ghost use Rattle.schedule_text.specs.Line.{register_text, hex_digit, hex_byte, hex_text, hex_long};
+ghost use Rattle.schedule_text.specs.Line.{AreSomeBytes, IsDecimal, ReadsNumber};
+
+use crate::LineFault;
+use aoe_frame::Bytes;
+use ata_taskfile::Reg;
+use std::str;
+
+pub(crate) fn after<'a>(line: &'a [u8], front: &[u8]) -> Option<&'a [u8]>
+    ensures cut { MatchOption result ((rest : List ℕ) → line.now ≢ front.now ++ rest)
+        (λ rest. line.now ≡ front.now ++ rest.now) }
+{
+    line.strip_prefix(front)
+}
+
+pub(crate) fn register_and_byte(text: &[u8]) -> Option<(Reg, u8)>
+    ensures told { MatchOption result
+        ((r : RegOf) (v : ℕ) → v < 256 → text.now ≢ register_text r ++ 32 ∷ hex_byte v)
+        (λ pair. (pair.1 < 256) × (text.now ≡ register_text pair.0 ++ 32 ∷ hex_byte pair.1)) }
+{
+    let [name @ .., b' ', high, low] = text else {
+        return None;
+    };
+    Some((register(name)?, byte(*high, *low)?))
+}
+
+pub(crate) fn register(name: &[u8]) -> Option<Reg>
+    ensures told { MatchOption result ((r : RegOf) → name.now ≢ register_text r)
+        (λ r. name.now ≡ register_text r) }
+{
+    match name {
+        b"er" => Some(Reg::Error),
+        b"sc" => Some(Reg::Count),
+        b"ll" => Some(Reg::Low),
+        b"lm" => Some(Reg::Mid),
+        b"lh" => Some(Reg::High),
+        b"dv" => Some(Reg::Device),
+        b"st" => Some(Reg::Status),
+        b"al" => Some(Reg::Alternate),
+        b"bc" => Some(Reg::BusCommand),
+        b"bs" => Some(Reg::BusStatus),
+        _ => None,
+    }
+}
+
+// One byte or more, of two digits each.
+pub(crate) fn bytes<const N: usize>(text: &[u8]) -> Option<Bytes<N>>
+    ensures told { MatchOption result ((all : List ℕ) → AreSomeBytes N all → text.now ≢ hex_text all)
+        (λ all. AreSomeBytes N all × (text.now ≡ hex_text all)) }
+{
+    if text.is_empty() {
+        return None;
+    }
+    let mut bytes = Bytes::new();
+    let mut rest = text;
+    while let Some((byte, after)) = byte_and_rest(rest) {
+        if !bytes.push(byte) {
+            return None;
+        }
+        rest = after;
+    }
+    if rest.is_empty() { Some(bytes) } else { None }
+}
+
+// A number of eight digits.
+pub(crate) fn long(text: &[u8]) -> Option<u32>
+    ensures told { MatchOption result ((v : ℕ) → v < 2 ^ 32 → text.now ≢ hex_long v)
+        (λ v. (v < 2 ^ 32) × (text.now ≡ hex_long v)) }
+{
+    match long_and_rest(text)? {
+        (number, []) => Some(number),
+        _ => None,
+    }
+}
+
+// A number of eight digits, and what follows the space behind them.
+pub(crate) fn address_and_rest(text: &[u8]) -> Option<(u32, &[u8])>
+    ensures told { MatchOption result
+        ((v : ℕ) (rest : List ℕ) → v < 2 ^ 32 → text.now ≢ hex_long v ++ 32 ∷ rest)
+        (λ pair. (pair.0 < 2 ^ 32) × (text.now ≡ hex_long pair.0 ++ 32 ∷ pair.1.now)) }
+{
+    match long_and_rest(text)? {
+        (address, [b' ', rest @ ..]) => Some((address, rest)),
+        _ => None,
+    }
+}
+
+// A number of eight digits, and what follows them.
+fn long_and_rest(text: &[u8]) -> Option<(u32, &[u8])>
+    ensures told { MatchOption result
+        ((v : ℕ) (rest : List ℕ) → v < 2 ^ 32 → text.now ≢ hex_long v ++ rest)
+        (λ pair. (pair.0 < 2 ^ 32) × (text.now ≡ hex_long pair.0 ++ pair.1.now)) }
+{
+    let (first, rest) = byte_and_rest(text)?;
+    let (second, rest) = byte_and_rest(rest)?;
+    let (third, rest) = byte_and_rest(rest)?;
+    let (fourth, rest) = byte_and_rest(rest)?;
+    Some((u32::from_be_bytes([first, second, third, fourth]), rest))
+}
+
+fn byte_and_rest(text: &[u8]) -> Option<(u8, &[u8])>
+    ensures told { MatchOption result
+        ((v : ℕ) (rest : List ℕ) → v < 256 → text.now ≢ hex_byte v ++ rest)
+        (λ pair. (pair.0 < 256) × (text.now ≡ hex_byte pair.0 ++ pair.1.now)) }
+{
+    let [high, low, rest @ ..] = text else {
+        return None;
+    };
+    Some((byte(*high, *low)?, rest))
+}
+
+fn byte(high: u8, low: u8) -> Option<u8>
+    ensures found { IfSome result (λ v. high ∷ low ∷ [] ≡ hex_byte v) }
+    ensures all { (v : ℕ) → v < 256 → high ∷ low ∷ [] ≡ hex_byte v → result ≡ Some v }
+{
+    Some(digit(high)? * 16 + digit(low)?)
+}
+
+fn digit(c: u8) -> Option<u8>
+    ensures found { IfSome result (λ v. (v < 16) × (c ≡ hex_digit v)) }
+    ensures all { (v : ℕ) → v < 16 → c ≡ hex_digit v → result ≡ Some v }
+{
+    match c {
+        b'0'..=b'9' => Some(c - b'0'),
+        b'a'..=b'f' => Some(c - b'a' + 10),
+        _ => None,
+    }
+}
+
+// A decimal number that may be from `low` to `high`.
+#[tactic(auto, using(crate::proofs::Numbers::numbers))]
+pub(crate) fn number(digits: &[u8], low: u32, high: u32) -> Result<u32, LineFault>
+    ensures number { ReadsNumber low high digits.now result }
+{
+    if !is_decimal(digits) {
+        return Err(LineFault::Form);
+    }
+    match value(digits) {
+        Some(number) if low <= number && number <= high => Ok(number),
+        _ => Err(LineFault::Number),
+    }
+}
+
+#[tactic(auto, using(crate::proofs::Numbers::digits))]
+fn is_decimal(text: &[u8]) -> bool
+    ensures decimal { IsTrue result ↔ IsDecimal text.now }
+{
+    match text {
+        [b'0'] => true,
+        [b'1'..=b'9', ..] => has_only_digits(text),
+        _ => false,
+    }
+}
+
+fn has_only_digits(text: &[u8]) -> bool
+    ensures digits { result ≡ list_all is_ascii_digit text.now }
+{
+    text.iter().all(|byte| byte.is_ascii_digit())
+}
+
+fn value(digits: &[u8]) -> Option<u32>
+    requires { IsDecimal digits.now }
+    ensures value { SomeIff result (digits_value 10 digits.now < 2 ^ 32) (digits_value 10 digits.now) }
+{
+    match str::from_utf8(digits) {
+        Ok(text) => text.parse().ok(),
+        Err(_) => None,
+    }
+}
