@@ -1,0 +1,34 @@
+//! The reserved sectors that the monitor reads and writes, and the buffer with the bytes of one.
+
+ghost use Rattle.std.specs.Prelude.{◌≡◌, ◌<◌, ◌≤◌, ◌++◌, length, take, drop};
+ghost use Rattle.fill_bitmap.specs.Area.{IsSuitable, bitmap_sectors_of};
+ghost use Rattle.fill_store.specs.Sectors.{sector_of_bits};
+
+use fill_bitmap::Area;
+
+// The sector of the disk that holds the bitmap's sector `k`.
+pub(crate) fn sector_of_bits(area: &Area, k: u32) -> u64
+    requires suitable { IsSuitable area.now }
+    requires there { k < bitmap_sectors_of area.now }
+    ensures sector { result ≡ sector_of_bits area.now k }
+{
+    area.reserved() + 1 + u64::from(k)
+}
+
+// Puts a sector's bytes at the front of the buffer.
+pub(crate) fn put(bytes: &[u8; 512], buffer: &mut [u8])
+    requires { 512 ≤ length buffer.old }
+    ensures { buffer.new ≡ bytes.now ++ drop 512 buffer.old }
+{
+    buffer[..512].copy_from_slice(bytes);
+}
+
+// The bytes at the front of the buffer.
+pub(crate) fn front(buffer: &[u8]) -> [u8; 512]
+    requires { 512 ≤ length buffer.now }
+    ensures { result ≡ take 512 buffer.now }
+{
+    let mut bytes = [0; 512];
+    bytes.copy_from_slice(&buffer[..512]);
+    bytes
+}
