@@ -1,5 +1,5 @@
 -- A buffer of zeros that is filled from the front.
-use Rattle.std.proofs.Common.{◌≡◌, ℕ, ◌+◌, ◌-◌, List, [], ◌++◌, length, take, drop, replicate, arith, refl, ap, sym, ◌∙◌, append_assoc, append-nil}
+use Rattle.std.proofs.Common.{◌≡◌, ℕ, ◌+◌, ◌-◌, List, [], ◌++◌, length, take, drop, replicate, arith, ap, sym, ◌∙◌, append_assoc, append-nil}
 use Rattle.std.proofs.lemmas.List.{take_at, drop_at, drop-replicate, take_all, length-replicate}
 use borrow.Rule.Slice.PartMut.{put_mid, mid_of, post_of}
 

@@ -1,1 +1,5 @@
 pub mod Fronts
+pub mod Values
+pub mod Stored
+pub mod Opens
+pub mod Settles

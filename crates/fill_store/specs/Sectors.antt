@@ -1,5 +1,5 @@
 -- The sectors of the monitor's own commands, and the buffer of their bytes.
-use Rattle.std.specs.Prelude.{ℕ, ◌≡◌, ◌<◌, ◌≤◌, ◌+◌, Bool, false, true, Option, Some, None, List, ◌++◌, drop, replicate}
+use Rattle.std.specs.Prelude.{ℕ, ◌≡◌, ◌<◌, ◌≤◌, ◌+◌, Option, Some, None, List, ◌++◌, drop, replicate}
 use Rattle.fill_bitmap.specs.declared.area.Area.{Area}
 use Rattle.fill_bitmap.specs.Area.{bitmap_sectors_of, reserved_of}
 use Rattle.own_pio.specs.declared.job.OwnJob.{OwnJob}

@@ -1,7 +1,7 @@
 -- A settling: what is to be done next, and what the end of that makes of it and of the bitmap.
 use Rattle.std.specs.Prelude.{ℕ, ◌<◌, ◌+◌, ◌-◌, ◌==◌, Bool, true, false, if◌then◌else◌, Option, Some, None, List}
 use Rattle.own_pio.specs.declared.job.OwnJob.{OwnJob}
-use Rattle.own_pio.specs.declared.job.OwnJob.TheVariants.{Read, Write, Flush}
+use Rattle.own_pio.specs.declared.job.OwnJob.TheVariants.{Write, Flush}
 use Rattle.fill_bitmap.specs.declared.area.Area.{Area}
 use Rattle.fill_bitmap.specs.Area.{IsSuitable, bitmap_sectors_of}
 use Rattle.fill_bitmap.specs.Bits.{sector_of}

@@ -1,9 +1,11 @@
 //! Opening: what the monitor has the drive do for it at power-on, until it knows which blocks are stored.
 
-ghost use Rattle.std.specs.Prelude.{◌≡◌, ◌<◌, ◌≤◌, ◌+◌, ◌-◌, ◌↔◌, length, take, IsNone, IfSome, IsTrue, false};
+ghost use Rattle.std.specs.Prelude.{◌≡◌, ◌<◌, ◌≤◌, ◌+◌, ◌-◌, ◌↔◌, length, take, IsNone, IfSome, IsTrue, false, ℕ, List};
+ghost use Rattle.ata_taskfile.specs.Device.{Cell};
 ghost use Rattle.fill_bitmap.specs.Area.{IsSuitable, blocks_of, bitmap_sectors_of};
 ghost use Rattle.fill_bitmap.specs.Bitmap.{blocks_in, loaded};
 ghost use Rattle.fill_store.specs.Sectors.{IsOnKept, zero_bits, buffer_with};
+ghost use Rattle.fill_store.specs.OpeningCells.{Opens, MadeByOpening};
 ghost use Rattle.fill_store.specs.Opening.{opening_of, next_in_opening, jobs_of_opening, opening_after, sets_after_opening, bytes_to_open, IsReached, read_from, zeros_from, jobs_at, step_after, sets_behind, bytes_at};
 
 use crate::header_bytes::header;
@@ -94,6 +96,9 @@ impl Opening {
         ensures failed { ok ≡ false → self.new ≡ self.old }
         ensures unchanged { ok ≡ false → bitmap.new ≡ bitmap.old }
         ensures count { blocks_in bitmap.new ≡ blocks_in bitmap.old }
+        ensures opens { (disk : List (List ℕ)) (old new : List Cell) →
+            Opens disk self.old bitmap.old old → MadeByOpening ok self.old sector.old old new →
+            Opens disk self.new bitmap.new new }
     {
         if ok {
             self.step = advanced(&self.area, self.id, self.step, bitmap, &front(sector));

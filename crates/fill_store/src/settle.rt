@@ -1,9 +1,11 @@
 //! Settling: the frozen blocks get their bits in the bitmap on the disk.
 
-ghost use Rattle.std.specs.Prelude.{◌≡◌, ◌<◌, ◌≤◌, ◌+◌, ◌-◌, ◌↔◌, length, IsNone, IfSome, IsTrue, false};
+ghost use Rattle.std.specs.Prelude.{◌≡◌, ◌<◌, ◌≤◌, ◌+◌, ◌-◌, ◌↔◌, length, IsNone, IfSome, IsTrue, false, ℕ, Bool, List};
+ghost use Rattle.ata_taskfile.specs.Device.{Cell};
 ghost use Rattle.fill_bitmap.specs.Area.{IsSuitable, blocks_of, bitmap_sectors_of};
 ghost use Rattle.fill_bitmap.specs.Bitmap.{blocks_in, sectors_in};
 ghost use Rattle.fill_store.specs.Sectors.{IsOnKept, buffer_with};
+ghost use Rattle.fill_store.specs.SettleCells.{Settles, MadeBySettling, durable_after};
 ghost use Rattle.fill_store.specs.Settle.{settle_of, next_in_settling, jobs_of_settling, settle_after, sets_after_settling, bytes_to_settle, IsReached, bits_from, jobs_at, step_after, sets_behind, bytes_at};
 
 use crate::sectors::{put, sector_of_bits};
@@ -84,6 +86,13 @@ impl Settle {
         ensures failed { ok ≡ false → jobs_of_settling self.new ≡ 0 }
         ensures unchanged { ok ≡ false → bitmap.new ≡ bitmap.old }
         ensures count { blocks_in bitmap.new ≡ blocks_in bitmap.old }
+        ensures frozen { bitmap.new.frozen ≡ bitmap.old.frozen }
+        ensures stored { IsTrue ok → jobs_of_settling self.new ≡ 0 →
+            bitmap.new.stored ≡ bitmap.old.frozen }
+        ensures settles { (id : ℕ) (durable : List Bool) (old new : List Cell) →
+            Settles id durable self.old bitmap.old old →
+            MadeBySettling ok self.old bitmap.old old new →
+            Settles id (durable_after ok self.old bitmap.old durable) self.new bitmap.new new }
     {
         if ok {
             self.step = advanced(&self.area, self.step, bitmap);

@@ -1,0 +1,8 @@
+use Rattle.fill_store.proofs.Opens.{keeps_forgets, keeps_elsewhere}
+use Rattle.fill_store.proofs.laws.kept_bits_stand.Goals as goal
+
+pub returns : goal.returns
+returns c = record {
+  forgotten = λ area id least most old new kept forgets. keeps_forgets area id least most old new forgets kept;
+  elsewhere = keeps_elsewhere;
+}
