@@ -13,6 +13,8 @@ mod laws;
 mod opening;
 mod sectors;
 mod settle;
+#[cfg(test)]
+mod tests;
 
 pub use header_bytes::header;
 pub use laws::{

@@ -6,7 +6,7 @@ ghost use Rattle.fill_bitmap.specs.Area.{IsSuitable, blocks_of, bitmap_sectors_o
 ghost use Rattle.fill_bitmap.specs.Bitmap.{blocks_in, loaded};
 ghost use Rattle.fill_store.specs.Sectors.{IsOnKept, zero_bits, buffer_with};
 ghost use Rattle.fill_store.specs.OpeningCells.{Opens, MadeByOpening};
-ghost use Rattle.fill_store.specs.Opening.{opening_of, next_in_opening, jobs_of_opening, opening_after, sets_after_opening, bytes_to_open, IsReached, read_from, zeros_from, jobs_at, step_after, sets_behind, bytes_at};
+ghost use Rattle.fill_store.specs.Opening.{opening_at, opening_of, next_in_opening, jobs_of_opening, opening_after, sets_after_opening, bytes_to_open, IsReached, read_from, zeros_from, jobs_at, step_after, sets_behind, bytes_at};
 
 use crate::header_bytes::header;
 use crate::sectors::{front, put, sector_of_bits};
@@ -96,15 +96,43 @@ impl Opening {
         ensures failed { ok ≡ false → self.new ≡ self.old }
         ensures unchanged { ok ≡ false → bitmap.new ≡ bitmap.old }
         ensures count { blocks_in bitmap.new ≡ blocks_in bitmap.old }
+        ensures area { self.new.area ≡ self.old.area }
         ensures opens { (disk : List (List ℕ)) (old new : List Cell) →
             Opens disk self.old bitmap.old old → MadeByOpening ok self.old sector.old old new →
             Opens disk self.new bitmap.new new }
     {
-        if ok {
-            self.step = advanced(&self.area, self.id, self.step, bitmap, &front(sector));
-        }
+        self.step = step_behind(&self.area, self.id, self.step, ok, bitmap, sector);
         fill(&self.area, self.id, self.step, sector);
     }
+}
+
+// The step behind one whose command has ended: one that failed is begun again.
+fn step_behind(
+    area: &Area,
+    id: u64,
+    step: OpeningStep,
+    ok: bool,
+    bitmap: &mut Bitmap,
+    sector: &[u8],
+) -> OpeningStep
+    requires suitable { IsSuitable area.now }
+    requires reached { IsReached area.now step }
+    requires stands { 0 < jobs_at area.now step }
+    requires blocks { blocks_in bitmap.old ≡ blocks_of area.now }
+    requires room { 512 ≤ length sector.now }
+    ensures step { let o = opening_at area.now id step in
+        opening_at area.now id result ≡ opening_after ok (take 512 sector.now) o }
+    ensures reached { IsReached area.now result }
+    ensures sets { let o = opening_at area.now id step in
+        bitmap.new ≡ sets_after_opening ok (take 512 sector.now) o bitmap.old }
+    ensures lowered { IsTrue ok → jobs_at area.now result < jobs_at area.now step }
+    ensures failed { ok ≡ false → result ≡ step }
+    ensures count { blocks_in bitmap.new ≡ blocks_in bitmap.old }
+{
+    if !ok {
+        return step;
+    }
+    advanced(area, id, step, bitmap, &front(sector))
 }
 
 // The step behind one that was done, whose sector has these bytes where it was a read.
@@ -201,7 +229,7 @@ fn zeros_from(area: &Area, k: u32) -> OpeningStep
 // Puts the bytes of a step that writes at the front of the buffer.
 fn fill(area: &Area, id: u64, step: OpeningStep, buffer: &mut [u8])
     requires { 512 ≤ length buffer.old }
-    ensures { buffer.new ≡ buffer_with (bytes_at area.now id step) buffer.old }
+    ensures buffer { buffer.new ≡ buffer_with (bytes_at area.now id step) buffer.old }
 {
     match step {
         OpeningStep::WriteZeros(_) => fill_zeros(buffer),
@@ -217,14 +245,14 @@ fn fill(area: &Area, id: u64, step: OpeningStep, buffer: &mut [u8])
 #[tactic(auto, unfolding(crate::specs::Sectors::zero_bits))]
 fn fill_zeros(buffer: &mut [u8])
     requires { 512 ≤ length buffer.old }
-    ensures { buffer.new ≡ buffer_with (Some zero_bits) buffer.old }
+    ensures buffer { buffer.new ≡ buffer_with (Some zero_bits) buffer.old }
 {
     put(&[0; 512], buffer);
 }
 
 fn fill_header(area: &Area, id: u64, buffer: &mut [u8])
     requires { 512 ≤ length buffer.old }
-    ensures { buffer.new ≡ buffer_with (bytes_at area.now id OpeningStep.WriteHeader) buffer.old }
+    ensures buffer { buffer.new ≡ buffer_with (bytes_at area.now id OpeningStep.WriteHeader) buffer.old }
 {
     let mut bytes = [0; 512];
     header(area, id, &mut bytes);

@@ -18,7 +18,7 @@ pub(crate) fn sector_of_bits(area: &Area, k: u32) -> u64
 // Puts a sector's bytes at the front of the buffer.
 pub(crate) fn put(bytes: &[u8; 512], buffer: &mut [u8])
     requires { 512 ≤ length buffer.old }
-    ensures { buffer.new ≡ bytes.now ++ drop 512 buffer.old }
+    ensures buffer { buffer.new ≡ bytes.now ++ drop 512 buffer.old }
 {
     buffer[..512].copy_from_slice(bytes);
 }
@@ -26,7 +26,7 @@ pub(crate) fn put(bytes: &[u8; 512], buffer: &mut [u8])
 // The bytes at the front of the buffer.
 pub(crate) fn front(buffer: &[u8]) -> [u8; 512]
     requires { 512 ≤ length buffer.now }
-    ensures { result ≡ take 512 buffer.now }
+    ensures bytes { result ≡ take 512 buffer.now }
 {
     let mut bytes = [0; 512];
     bytes.copy_from_slice(&buffer[..512]);

@@ -6,7 +6,7 @@ ghost use Rattle.fill_bitmap.specs.Area.{IsSuitable, blocks_of, bitmap_sectors_o
 ghost use Rattle.fill_bitmap.specs.Bitmap.{blocks_in, sectors_in};
 ghost use Rattle.fill_store.specs.Sectors.{IsOnKept, buffer_with};
 ghost use Rattle.fill_store.specs.SettleCells.{Settles, MadeBySettling, durable_after};
-ghost use Rattle.fill_store.specs.Settle.{settle_of, next_in_settling, jobs_of_settling, settle_after, sets_after_settling, bytes_to_settle, IsReached, bits_from, jobs_at, step_after, sets_behind, bytes_at};
+ghost use Rattle.fill_store.specs.Settle.{settle_at, settle_of, next_in_settling, jobs_of_settling, settle_after, sets_after_settling, bytes_to_settle, IsReached, bits_from, jobs_at, step_after, sets_behind, bytes_at};
 
 use crate::sectors::{put, sector_of_bits};
 use fill_bitmap::{Area, Bitmap};
@@ -86,6 +86,7 @@ impl Settle {
         ensures failed { ok ≡ false → jobs_of_settling self.new ≡ 0 }
         ensures unchanged { ok ≡ false → bitmap.new ≡ bitmap.old }
         ensures count { blocks_in bitmap.new ≡ blocks_in bitmap.old }
+        ensures area { self.new.area ≡ self.old.area }
         ensures frozen { bitmap.new.frozen ≡ bitmap.old.frozen }
         ensures stored { IsTrue ok → jobs_of_settling self.new ≡ 0 →
             bitmap.new.stored ≡ bitmap.old.frozen }
@@ -94,14 +95,29 @@ impl Settle {
             MadeBySettling ok self.old bitmap.old old new →
             Settles id (durable_after ok self.old bitmap.old durable) self.new bitmap.new new }
     {
-        if ok {
-            self.step = advanced(&self.area, self.step, bitmap);
-        } else {
-            self.step = SettleStep::Ended;
-        }
+        self.step = step_behind(&self.area, self.step, ok, bitmap);
         fill(self.step, bitmap, sector);
         ok
     }
+}
+
+// The step behind one whose command has ended: one that failed ends the settling.
+fn step_behind(area: &Area, step: SettleStep, ok: bool, bitmap: &mut Bitmap) -> SettleStep
+    requires suitable { IsSuitable area.now }
+    requires reached { IsReached (bitmap_sectors_of area.now) step }
+    requires stands { 0 < jobs_at area.now step }
+    ensures step { settle_at area.now result ≡ settle_after ok (settle_at area.now step) }
+    ensures reached { IsReached (bitmap_sectors_of area.now) result }
+    ensures sets { let s = settle_at area.now step in
+        bitmap.new ≡ sets_after_settling ok s bitmap.old }
+    ensures lowered { IsTrue ok → jobs_at area.now result < jobs_at area.now step }
+    ensures failed { ok ≡ false → jobs_at area.now result ≡ 0 }
+    ensures count { blocks_in bitmap.new ≡ blocks_in bitmap.old }
+{
+    if !ok {
+        return SettleStep::Ended;
+    }
+    advanced(area, step, bitmap)
 }
 
 // The step behind one that was done.
