@@ -16,7 +16,7 @@ use Rattle.fill_bitmap.proofs.Sectors.{length-with_sector, has-with_sector}
 use Rattle.fill_bitmap.proofs.Bytes.{bit_written}
 
 -- a set of none of the blocks has none
-has-empty_set : (n b : ℕ) → has (empty_set n) b ≡ false
+pub has-empty_set : (n b : ℕ) → has (empty_set n) b ≡ false
 has-empty_set n b = elim (cases_lt b n) [
   | inl inside ↦ get_or-replicate n b false false inside
   | inr past ↦ get_or_past (empty_set n) b false (omega (arith, length-replicate n false))
@@ -99,7 +99,7 @@ untrue true h = absurd (h refl)
 untrue false h = refl
 
 -- without the header no block is stored
-none_stored : (area : Area) (id : ℕ) (disk : List (List ℕ)) → (HasHeader area id disk → ⊥) → stored_blocks area id disk ≡ empty_set (blocks_of area)
+pub none_stored : (area : Area) (id : ℕ) (disk : List (List ℕ)) → (HasHeader area id disk → ⊥) → stored_blocks area id disk ≡ empty_set (blocks_of area)
 none_stored area id disk none =
     let test : has_header area id disk ≡ false =
     untrue (has_header area id disk) (λ h. none ((bytes_eq-Decides (sector_at (reserved_of area) disk) (header_of area id)).0 h)) in

@@ -1,5 +1,6 @@
 pub mod Fronts
 pub mod Values
 pub mod Stored
+pub mod Keeps
 pub mod Opens
 pub mod Settles

@@ -3,7 +3,6 @@ use Rattle.std.proofs.Common.{◌≡◌, ℕ, suc, ◌==◌, ◌+◌, ◌<◌, B
 use Rattle.std.proofs.Math.Path.{subst}
 use Rattle.std.specs.List.{range_with_len}
 use Rattle.std.specs.Str.{bytes_eq}
-use Rattle.std.proofs.lemmas.Bool.{cases_lt}
 use Rattle.std.proofs.lemmas.Bool.Decides.{eqb_tells}
 use Rattle.std.proofs.lemmas.List.{length-map, length-replicate}
 use Rattle.std.proofs.lemmas.List.FromFn.{fill_by_all, length-map-range_with_len, get_or-map-range_with_len}
@@ -18,35 +17,16 @@ use Rattle.fill_bitmap.specs.Bits.{has_bit}
 use Rattle.fill_bitmap.specs.Bitmap.{Sets, empty_sets, loaded}
 use Rattle.fill_bitmap.specs.BlockSet.{has, empty_set, with_sector}
 use Rattle.fill_bitmap.specs.Disk.{sector_at, header_of, HasHeader, bitmap_sector, stored_blocks, with_sectors, sector_seen, guest_view}
-use Rattle.fill_bitmap.proofs.Disks.{added_all}
+use Rattle.fill_bitmap.proofs.Disks.{added_all, none_stored, has-empty_set}
 use Rattle.fill_store.specs.declared.opening.OpeningStep.{OpeningStep}
 use Rattle.fill_store.specs.declared.opening.OpeningStep.TheVariants.{ReadHeader, ReadBits, WriteZeros, FlushZeros, WriteHeader, FlushHeader, Ended}
 use Rattle.fill_store.specs.Sectors.{sector_of_bits, zero_bits}
-use Rattle.fill_store.specs.Cells.{value_at, Each, MadeBy, ForgetsOld, HasBitsBetween, KeepsBits}
+use Rattle.fill_store.specs.Cells.{Each, MadeBy, ForgetsOld, HasBitsBetween, KeepsBits}
 use Rattle.fill_store.specs.Opening.{OpeningState, opening_of, IsReached, job_at, bytes_at, next_in_opening, bytes_to_open, read_from, zeros_from, step_after, sets_behind, opening_after, sets_after_opening}
-use Rattle.fill_store.specs.OpeningCells.{IsEither, alike, LeavesOldOrNew, HasOldBits, HasOldHeader, HasZeros, HasOnlyZeros, HoldsAt, MadeByOpening, Opens}
-use Rattle.fill_store.proofs.Values.{newest, each_map, each_written, other_written, newest_written, length-appended, each_flushed, flush_forgets, each_forgets, left_by_cut, at_power_on}
-use Rattle.fill_store.proofs.Stored.{length-stored_blocks, stored_inside, held_inside, stored_block, none_stored, zeros_stored, same_stored, no_bit, no_block, cut_stores_set}
-
--- where older values were forgotten, what a cut may leave stays between its sets
-pub keeps_forgets : (area : Area) (id : ℕ) (least most : List Bool) (old new : List Cell) → ForgetsOld old new
-    → KeepsBits area id least most old → KeepsBits area id least most new
-keeps_forgets area id least most old new forgets kept = record {
-  reserved = kept.reserved ∙ sym forgets.cells;
-  blocks = kept.blocks;
-  header = each_forgets (λ value. value ≡ header_of area id) (reserved_of area) old new forgets kept.header;
-  bits = λ k inside. each_forgets (HasBitsBetween area k least most) (sector_of_bits area k) old new forgets (kept.bits k inside);
-}
-
--- and where a sector elsewhere is written
-pub keeps_elsewhere : (area : Area) (id : ℕ) (least most : List Bool) (sector : ℕ) (bytes : List ℕ) (cells : List Cell)
-    → KeepsBits area id least most cells → sector < reserved_of area → KeepsBits area id least most (appended sector bytes cells)
-keeps_elsewhere area id least most sector bytes cells kept elsewhere = record {
-  reserved = kept.reserved ∙ sym (length-appended sector bytes cells);
-  blocks = kept.blocks;
-  header = each_written (λ value. value ≡ header_of area id) sector (reserved_of area) bytes cells (λ e. absurd (omega arith)) kept.header;
-  bits = λ k inside. each_written (HasBitsBetween area k least most) sector (sector_of_bits area k) bytes cells (λ e. absurd (omega arith)) (kept.bits k inside);
-}
+use Rattle.fill_store.specs.OpeningCells.{IsEither, alike, LeavesOldOrNew, HasOldBits, HasOldHeader, HasZeros, HasOnlyZeros, CellsAt, blocks_at, MadeByOpening, Opens}
+use Rattle.fill_store.proofs.Values.{newest, each_map, each_written, newest_written, length-appended, each_flushed, flush_forgets, each_forgets, left_by_cut, at_power_on, on_test}
+use Rattle.fill_store.proofs.Stored.{length-stored_blocks, stored_inside, stored_block, zeros_stored, same_stored, no_bit, cut_stores_set}
+use Rattle.fill_store.proofs.Keeps.{bits_forget, bits_stand, one_more, keeps_forgets}
 
 leaves_forgets : (area : Area) (id : ℕ) (disk : List (List ℕ)) (old new : List Cell) → ForgetsOld old new
     → LeavesOldOrNew area id disk old → LeavesOldOrNew area id disk new
@@ -75,55 +55,40 @@ leaves_header area id disk cells leaves = record {
   bits = λ j inside. each_written (IsEither (bitmap_sector area disk j) zero_bits) (reserved_of area) (sector_of_bits area j) (header_of area id) cells (λ e. absurd (omega arith)) (leaves.bits j inside);
 }
 
-old_header_forgets : (area : Area) (id : ℕ) (disk : List (List ℕ)) (old new : List Cell) → ForgetsOld old new
-    → HasOldHeader area id disk old → HasOldHeader area id disk new
-old_header_forgets area id disk old new forgets has = record {
-  none = has.none;
-  header = each_forgets (λ value. value ≡ sector_at (reserved_of area) disk) (reserved_of area) old new forgets has.header;
-}
-
-only_zeros_forgets : (area : Area) (id : ℕ) (disk : List (List ℕ)) (old new : List Cell) → ForgetsOld old new
-    → HasOnlyZeros area id disk old → HasOnlyZeros area id disk new
-only_zeros_forgets area id disk old new forgets has = record {
-  none = has.none;
-  bits = λ k inside. each_forgets (λ value. value ≡ zero_bits) (sector_of_bits area k) old new forgets (has.bits k inside);
-}
-
 old_bits_forget : (area : Area) (disk : List (List ℕ)) (old new : List Cell) → ForgetsOld old new → HasOldBits area disk old → HasOldBits area disk new
-old_bits_forget area disk old new forgets has k inside =
-    each_forgets (λ value. value ≡ bitmap_sector area disk k) (sector_of_bits area k) old new forgets (has k inside)
+old_bits_forget area disk old new forgets bits k inside =
+    each_forgets (λ value. value ≡ bitmap_sector area disk k) (sector_of_bits area k) old new forgets (bits k inside)
 
-zeros_forget : (n : ℕ) (area : Area) (old new : List Cell) → ForgetsOld old new → HasZeros n area old → HasZeros n area new
-zeros_forget n area old new forgets has k inside = forgets.newest (sector_of_bits area k) ∙ has k inside
+old_header_forgets : (area : Area) (disk : List (List ℕ)) (old new : List Cell) → ForgetsOld old new → HasOldHeader area disk old → HasOldHeader area disk new
+old_header_forgets area disk old new forgets header =
+    each_forgets (λ value. value ≡ sector_at (reserved_of area) disk) (reserved_of area) old new forgets header
 
-holds_forgets : (area : Area) (id : ℕ) (disk : List (List ℕ)) (step : OpeningStep) (sets : Sets) (old new : List Cell) → ForgetsOld old new
-    → HoldsAt area id disk step sets old → HoldsAt area id disk step sets new
-holds_forgets area id disk ReadHeader sets old new forgets (none, bits, header) =
-    (none, old_bits_forget area disk old new forgets bits, each_forgets (λ value. value ≡ sector_at (reserved_of area) disk) (reserved_of area) old new forgets header)
-holds_forgets area id disk (ReadBits k) sets old new forgets (so_far, bits, header) = (so_far, old_bits_forget area disk old new forgets bits, header)
-holds_forgets area id disk (WriteZeros k) sets old new forgets (none, zeros, header) =
-    (none, zeros_forget k area old new forgets zeros, old_header_forgets area id disk old new forgets header)
-holds_forgets area id disk FlushZeros sets old new forgets (none, zeros, header) =
-    (none, zeros_forget (bitmap_sectors_of area) area old new forgets zeros, old_header_forgets area id disk old new forgets header)
-holds_forgets area id disk WriteHeader sets old new forgets (none, zeros) = (none, only_zeros_forgets area id disk old new forgets zeros)
-holds_forgets area id disk FlushHeader sets old new forgets (none, zeros, header) =
-    (none, only_zeros_forgets area id disk old new forgets zeros, forgets.newest (reserved_of area) ∙ header)
-holds_forgets area id disk Ended sets old new forgets (all, kept) = (all, keeps_forgets area id sets.stored sets.stored old new forgets kept)
+only_zeros_forget : (area : Area) (old new : List Cell) → ForgetsOld old new → HasOnlyZeros area old → HasOnlyZeros area new
+only_zeros_forget area old new forgets zeros k inside = each_forgets (λ value. value ≡ zero_bits) (sector_of_bits area k) old new forgets (zeros k inside)
+
+cells_forget : (area : Area) (id : ℕ) (disk : List (List ℕ)) (step : OpeningStep) (old new : List Cell) → ForgetsOld old new
+    → CellsAt area id disk step old → CellsAt area id disk step new
+cells_forget area id disk ReadHeader old new forgets (header, bits) =
+    (old_header_forgets area disk old new forgets header, old_bits_forget area disk old new forgets bits)
+cells_forget area id disk (ReadBits k) old new forgets (header, bits) = (header, old_bits_forget area disk old new forgets bits)
+cells_forget area id disk (WriteZeros k) old new forgets (none, header, zeros) =
+    (none, old_header_forgets area disk old new forgets header, bits_forget k (λ i. zero_bits) area old new forgets zeros)
+cells_forget area id disk FlushZeros old new forgets (none, header, zeros) =
+    (none, old_header_forgets area disk old new forgets header, bits_forget (bitmap_sectors_of area) (λ i. zero_bits) area old new forgets zeros)
+cells_forget area id disk WriteHeader old new forgets (none, zeros) = (none, only_zeros_forget area old new forgets zeros)
+cells_forget area id disk FlushHeader old new forgets (none, zeros, header) =
+    (none, only_zeros_forget area old new forgets zeros, forgets.newest (reserved_of area) ∙ header)
+cells_forget area id disk Ended old new forgets kept =
+    keeps_forgets area id (stored_blocks area id disk) (stored_blocks area id disk) old new forgets kept
 
 -- an opening stands where older values were forgotten
 pub opens_forgets : (disk : List (List ℕ)) (o : OpeningState) (sets : Sets) (old new : List Cell) → ForgetsOld old new
     → Opens disk o sets old → Opens disk o sets new
 opens_forgets disk o sets old new forgets opens = record {
+  bitmap = opens.bitmap;
   sectors = leaves_forgets o.area o.id disk old new forgets opens.sectors;
-  step = holds_forgets o.area o.id disk o.step sets old new forgets opens.step;
+  step = cells_forget o.area o.id disk o.step old new forgets opens.step;
 }
-
--- a test of two numbers, and what holds both ways
-on_test : (P : OpeningStep → Type 0) (k n : ℕ) (behind more : OpeningStep) → (k ≡ n → P behind) → P more → P (if k == n then behind else more)
-on_test P k n behind more at_end else_on = elim (eqb_tells k n) [
-  | inl (test, same) ↦ rw test (at_end same)
-  | inr (test, apart) ↦ rw test else_on
-]
 
 disk_bits : (area : Area) (id : ℕ) (disk : List (List ℕ)) (k : ℕ) (value : List ℕ) → HasHeader area id disk → value ≡ bitmap_sector area disk k
     → HasBitsBetween area k (stored_blocks area id disk) (stored_blocks area id disk) value
@@ -139,16 +104,14 @@ zero_between : (area : Area) (k : ℕ) (value : List ℕ) → value ≡ zero_bit
     → HasBitsBetween area k (empty_set (blocks_of area)) (empty_set (blocks_of area)) value
 zero_between area k value same = record {
   least_set = λ b at held.
-      let below = held_inside (empty_set (blocks_of area)) b held in
-      let none = no_block (blocks_of area) b (omega (arith, length-replicate (blocks_of area) false)) in
-      absurd (cc);
+      let none = has-empty_set (blocks_of area) b in absurd (cc);
   set_most = λ b inside at set. let none = ap (λ bytes. has_bit bytes b) same ∙ no_bit b in absurd (cc);
 }
 
 -- a drive whose header is the run's, and whose bitmap wasn't written since power-on, keeps the disk's stored blocks
 keeps_old : (area : Area) (id : ℕ) (disk : List (List ℕ)) (cells : List Cell) → LeavesOldOrNew area id disk cells
-    → HasOldBits area disk cells → HasHeader area id disk → KeepsBits area id (stored_blocks area id disk) (stored_blocks area id disk) cells
-keeps_old area id disk cells leaves bits header = record {
+    → HasHeader area id disk → HasOldBits area disk cells → KeepsBits area id (stored_blocks area id disk) (stored_blocks area id disk) cells
+keeps_old area id disk cells leaves header bits = record {
   reserved = leaves.reserved;
   blocks = length-stored_blocks area id disk;
   header = each_map (IsEither (sector_at (reserved_of area) disk) (header_of area id)) (λ value. value ≡ header_of area id) (reserved_of area) cells
@@ -158,166 +121,148 @@ keeps_old area id disk cells leaves bits header = record {
       (λ value same. disk_bits area id disk k value header same) (bits k inside);
 }
 
+-- and one with the header and zeros keeps no block
 keeps_empty : (area : Area) (id : ℕ) (disk : List (List ℕ)) (cells : List Cell) → LeavesOldOrNew area id disk cells
-    → HasOnlyZeros area id disk cells → Each (λ value. value ≡ header_of area id) (reserved_of area) cells
+    → HasOnlyZeros area cells → Each (λ value. value ≡ header_of area id) (reserved_of area) cells
     → KeepsBits area id (empty_set (blocks_of area)) (empty_set (blocks_of area)) cells
 keeps_empty area id disk cells leaves zeros header = record {
   reserved = leaves.reserved;
   blocks = length-replicate (blocks_of area) false;
   header = header;
   bits = λ k inside. each_map (λ value. value ≡ zero_bits) (HasBitsBetween area k (empty_set (blocks_of area)) (empty_set (blocks_of area)))
-      (sector_of_bits area k) cells (λ value same. zero_between area k value same) (zeros.bits k inside);
+      (sector_of_bits area k) cells (λ value same. zero_between area k value same) (zeros k inside);
 }
 
--- the end, where the blocks of each set are the disk's stored ones
-ends : (area : Area) (id : ℕ) (disk : List (List ℕ)) (set : List Bool) (sets : Sets) (cells : List Cell)
-    → sets ≡ alike set → set ≡ stored_blocks area id disk → KeepsBits area id set set cells → HoldsAt area id disk Ended sets cells
-ends area id disk set sets cells all are kept =
-    (all ∙ ap alike are, subst (λ held. KeepsBits area id held held cells) (sym (ap (λ s. s.stored) all)) kept)
+-- what stands at a step
+abbrev Stands : Area → ℕ → List (List ℕ) → Sets → List Cell → OpeningStep → Type 0
+Stands area id disk sets cells step =
+    (sets ≡ alike (blocks_at area id disk step)) × LeavesOldOrNew area id disk cells × CellsAt area id disk step cells
 
 reads_on : (area : Area) (id : ℕ) (disk : List (List ℕ)) (k : ℕ) (sets : Sets) (cells : List Cell) → LeavesOldOrNew area id disk cells
-    → sets ≡ alike (with_sectors k area disk (empty_set (blocks_of area))) → HasOldBits area disk cells → HasHeader area id disk
-    → HoldsAt area id disk (read_from area k) sets cells
-reads_on area id disk k sets cells leaves so_far bits header =
-    on_test (λ step. HoldsAt area id disk step sets cells) k (bitmap_sectors_of area) Ended (ReadBits k)
-    (λ all. ends area id disk (stored_blocks area id disk) sets cells
-    (so_far ∙ ap alike (ap (λ n. with_sectors n area disk (empty_set (blocks_of area))) all ∙ added_all area id disk header))
-    refl (keeps_old area id disk cells leaves bits header))
-    (so_far, bits, header)
+    → sets ≡ alike (with_sectors k area disk (empty_set (blocks_of area))) → HasHeader area id disk → HasOldBits area disk cells
+    → Stands area id disk sets cells (read_from area k)
+reads_on area id disk k sets cells leaves so_far header bits =
+    on_test (Stands area id disk sets cells) k (bitmap_sectors_of area) Ended (ReadBits k)
+    (λ all. (
+      so_far ∙ ap alike (ap (λ n. with_sectors n area disk (empty_set (blocks_of area))) all ∙ added_all area id disk header),
+      leaves,
+      keeps_old area id disk cells leaves header bits,
+    ))
+    (so_far, leaves, (header, bits))
 
-zeros_on : (area : Area) (id : ℕ) (disk : List (List ℕ)) (k : ℕ) (sets : Sets) (cells : List Cell)
-    → sets ≡ empty_sets (blocks_of area) → HasZeros k area cells → HasOldHeader area id disk cells
-    → HoldsAt area id disk (zeros_from area k) sets cells
-zeros_on area id disk k sets cells none zeros header =
-    on_test (λ step. HoldsAt area id disk step sets cells) k (bitmap_sectors_of area) FlushZeros (WriteZeros k)
-    (λ all. (none, subst (λ n. HasZeros n area cells) all zeros, header)) (none, zeros, header)
+zeros_on : (area : Area) (id : ℕ) (disk : List (List ℕ)) (k : ℕ) (sets : Sets) (cells : List Cell) → LeavesOldOrNew area id disk cells
+    → sets ≡ alike (empty_set (blocks_of area)) → ¬ HasHeader area id disk → HasOldHeader area disk cells → HasZeros k area cells
+    → Stands area id disk sets cells (zeros_from area k)
+zeros_on area id disk k sets cells leaves empty none header zeros =
+    on_test (Stands area id disk sets cells) k (bitmap_sectors_of area) FlushZeros (WriteZeros k)
+    (λ all. (empty, leaves, (none, header, subst (λ n. HasZeros n area cells) all zeros))) (empty, leaves, (none, header, zeros))
 
-zeros_stand : (area : Area) (k : ℕ) (cells : List Cell) → HasZeros k area cells → HasZeros k area (appended (sector_of_bits area k) zero_bits cells)
-zeros_stand area k cells zeros j below =
-    other_written (sector_of_bits area k) (sector_of_bits area j) zero_bits cells (λ e. omega arith) ∙ zeros j below
+header_stays : (area : Area) (disk : List (List ℕ)) (k : ℕ) (cells : List Cell) → HasOldHeader area disk cells
+    → HasOldHeader area disk (appended (sector_of_bits area k) zero_bits cells)
+header_stays area disk k cells header =
+    each_written (λ value. value ≡ sector_at (reserved_of area) disk) (sector_of_bits area k) (reserved_of area) zero_bits cells (λ e. absurd (omega arith)) header
 
-one_zero_more : (area : Area) (k : ℕ) (cells : List Cell) → sector_of_bits area k < length cells → HasZeros k area cells
-    → HasZeros (k + 1) area (appended (sector_of_bits area k) zero_bits cells)
-one_zero_more area k cells there zeros j below = elim (cases_lt j k) [
-  | inl before ↦ zeros_stand area k cells zeros j before
-  | inr past ↦
-      let same : j ≡ k = omega arith in
-      ap (λ i. value_at (sector_of_bits area i) (appended (sector_of_bits area k) zero_bits cells)) same ∙ newest_written (sector_of_bits area k) zero_bits cells there
-]
-
-header_stays : (area : Area) (id : ℕ) (disk : List (List ℕ)) (k : ℕ) (cells : List Cell) → HasOldHeader area id disk cells
-    → HasOldHeader area id disk (appended (sector_of_bits area k) zero_bits cells)
-header_stays area id disk k cells has = record {
-  none = has.none;
-  header = each_written (λ value. value ≡ sector_at (reserved_of area) disk) (sector_of_bits area k) (reserved_of area) zero_bits cells (λ e. absurd (omega arith)) has.header;
-}
-
-only_zeros_stay : (area : Area) (id : ℕ) (disk : List (List ℕ)) (cells : List Cell) → HasOnlyZeros area id disk cells
-    → HasOnlyZeros area id disk (appended (reserved_of area) (header_of area id) cells)
-only_zeros_stay area id disk cells has = record {
-  none = has.none;
-  bits = λ k inside. each_written (λ value. value ≡ zero_bits) (reserved_of area) (sector_of_bits area k) (header_of area id) cells (λ e. absurd (omega arith)) (has.bits k inside);
-}
-
-zeros_flushed : (area : Area) (id : ℕ) (disk : List (List ℕ)) (cells : List Cell) → HasZeros (bitmap_sectors_of area) area cells
-    → HasOldHeader area id disk cells → HasOnlyZeros area id disk (all_flushed cells)
-zeros_flushed area id disk cells zeros has = record {
-  none = has.none;
-  bits = λ k inside. each_flushed (λ value. value ≡ zero_bits) (sector_of_bits area k) cells (zeros k inside);
-}
+only_zeros_stay : (area : Area) (id : ℕ) (cells : List Cell) → HasOnlyZeros area cells
+    → HasOnlyZeros area (appended (reserved_of area) (header_of area id) cells)
+only_zeros_stay area id cells zeros k inside =
+    each_written (λ value. value ≡ zero_bits) (reserved_of area) (sector_of_bits area k) (header_of area id) cells (λ e. absurd (omega arith)) (zeros k inside)
 
 -- behind the header that was read
 header_was_read : (area : Area) (id : ℕ) (disk : List (List ℕ)) (bytes : List ℕ) (sets : Sets) (cells : List Cell) → LeavesOldOrNew area id disk cells
-    → bytes ≡ sector_at (reserved_of area) disk → HoldsAt area id disk ReadHeader sets cells
+    → bytes ≡ sector_at (reserved_of area) disk → sets ≡ alike (empty_set (blocks_of area)) → HasOldHeader area disk cells → HasOldBits area disk cells
     → (test : Bool) → bytes_eq bytes (header_of area id) ≡ test
-    → HoldsAt area id disk (if test then read_from area 0 else zeros_from area 0) sets cells
-header_was_read area id disk bytes sets cells leaves read (none, bits, header) true test =
-    reads_on area id disk 0 sets cells leaves none bits (sym read ∙ (bytes_eq-Decides bytes (header_of area id)).0 test)
-header_was_read area id disk bytes sets cells leaves read (none, bits, header) false test =
+    → Stands area id disk sets cells (if test then read_from area 0 else zeros_from area 0)
+header_was_read area id disk bytes sets cells leaves read empty header bits true test =
+    reads_on area id disk 0 sets cells leaves empty (sym read ∙ (bytes_eq-Decides bytes (header_of area id)).0 test) bits
+header_was_read area id disk bytes sets cells leaves read empty header bits false test =
     let other : ¬ HasHeader area id disk =
     λ same. let yes = (bytes_eq-Decides bytes (header_of area id)).1 (read ∙ same) in absurd (cc) in
-    zeros_on area id disk 0 sets cells none (λ j below. absurd (omega arith)) (record { none = other; header = header })
+    zeros_on area id disk 0 sets cells leaves empty other header (λ j below. absurd (omega arith))
 
 -- what a step that was done leaves
 step_done : (area : Area) (id : ℕ) (disk : List (List ℕ)) (step : OpeningStep) (bytes : List ℕ) (sets : Sets) (old new : List Cell)
-    → IsReached area step → LeavesOldOrNew area id disk old → HoldsAt area id disk step sets old
+    → IsReached area step → sets ≡ alike (blocks_at area id disk step) → LeavesOldOrNew area id disk old → CellsAt area id disk step old
     → MadeBy true (job_at area step) (unwrap_or (bytes_at area id step) bytes) old new
-    → LeavesOldOrNew area id disk new × HoldsAt area id disk (step_after area id bytes step) (sets_behind bytes step sets) new
-step_done area id disk ReadHeader bytes sets old new reached leaves holds (read, same) =
+    → Stands area id disk (sets_behind bytes step sets) new (step_after area id bytes step)
+step_done area id disk ReadHeader bytes sets old new reached empty leaves (header, bits) (read, same) =
     let value : bytes ≡ sector_at (reserved_of area) disk =
-    read ∙ newest (λ value. value ≡ sector_at (reserved_of area) disk) (reserved_of area) old holds.2 in
-    rw same (leaves, header_was_read area id disk bytes sets old leaves value holds (bytes_eq bytes (header_of area id)) refl)
-step_done area id disk (ReadBits k) bytes sets old new reached leaves (so_far, bits, header) (read, same) =
+    read ∙ newest (λ value. value ≡ sector_at (reserved_of area) disk) (reserved_of area) old header in
+    rw same (header_was_read area id disk bytes sets old leaves value empty header bits (bytes_eq bytes (header_of area id)) refl)
+step_done area id disk (ReadBits k) bytes sets old new reached so_far leaves (header, bits) (read, same) =
     let value : bytes ≡ bitmap_sector area disk k =
     read ∙ newest (λ value. value ≡ bitmap_sector area disk k) (sector_of_bits area k) old (bits k reached) in
     let set : List Bool = with_sectors k area disk (empty_set (blocks_of area)) in
     let more : loaded k bytes sets ≡ alike (with_sector k (bitmap_sector area disk k) set) =
     ap (loaded k bytes) so_far ∙ ap (λ sector. alike (with_sector k sector set)) value in
-    rw (same, add-one) (leaves, reads_on area id disk (suc k) (loaded k bytes sets) old leaves more bits header)
-step_done area id disk (WriteZeros k) bytes sets old new reached leaves (none, zeros, header) made =
+    rw (same, add-one) (reads_on area id disk (suc k) (loaded k bytes sets) old leaves more header bits)
+step_done area id disk (WriteZeros k) bytes sets old new reached empty leaves (none, header, zeros) made =
     let reserved = leaves.reserved in
+    rw made (zeros_on area id disk (k + 1) sets (appended (sector_of_bits area k) zero_bits old) (leaves_zeros area id disk k old leaves)
+    empty none (header_stays area disk k old header) (one_more k (λ i. zero_bits) area old (omega arith) zeros))
+step_done area id disk FlushZeros bytes sets old new reached empty leaves (none, header, zeros) made =
     rw made (
-      leaves_zeros area id disk k old leaves,
-      zeros_on area id disk (k + 1) sets (appended (sector_of_bits area k) zero_bits old) none
-          (one_zero_more area k old (omega arith) zeros) (header_stays area id disk k old header),
+      empty,
+      leaves_forgets area id disk old (all_flushed old) (flush_forgets old) leaves,
+      (none, λ k inside. each_flushed (λ value. value ≡ zero_bits) (sector_of_bits area k) old (zeros k inside)),
     )
-step_done area id disk FlushZeros bytes sets old new reached leaves (none, zeros, header) made =
-    rw made (leaves_forgets area id disk old (all_flushed old) (flush_forgets old) leaves, (none, zeros_flushed area id disk old zeros header))
-step_done area id disk WriteHeader bytes sets old new reached leaves (none, zeros) made =
+step_done area id disk WriteHeader bytes sets old new reached empty leaves (none, zeros) made =
     let reserved = leaves.reserved in
     rw made (
+      empty,
       leaves_header area id disk old leaves,
-      (none, only_zeros_stay area id disk old zeros, newest_written (reserved_of area) (header_of area id) old (omega arith)),
+      (none, only_zeros_stay area id old zeros, newest_written (reserved_of area) (header_of area id) old (omega arith)),
     )
-step_done area id disk FlushHeader bytes sets old new reached leaves (none, zeros, header) made =
+step_done area id disk FlushHeader bytes sets old new reached empty leaves (none, zeros, header) made =
     let left = leaves_forgets area id disk old (all_flushed old) (flush_forgets old) leaves in
+    let stored : stored_blocks area id disk ≡ empty_set (blocks_of area) = none_stored area id disk none in
     rw made (
+      empty ∙ ap alike (sym stored),
       left,
-      ends area id disk (empty_set (blocks_of area)) sets (all_flushed old) none (sym (none_stored area id disk zeros.none))
-          (keeps_empty area id disk (all_flushed old) left (only_zeros_forgets area id disk old (all_flushed old) (flush_forgets old) zeros)
+      subst (λ set. KeepsBits area id set set (all_flushed old)) (sym stored)
+          (keeps_empty area id disk (all_flushed old) left (only_zeros_forget area old (all_flushed old) (flush_forgets old) zeros)
           (each_flushed (λ value. value ≡ header_of area id) (reserved_of area) old header)),
     )
-step_done area id disk Ended bytes sets old new reached leaves holds made = rw made (leaves, holds)
+step_done area id disk Ended bytes sets old new reached all leaves kept made = rw made (all, leaves, kept)
 
--- a write that a step has in hand leaves all as it is to be, whether it was made or not
-step_in_hand : (area : Area) (id : ℕ) (disk : List (List ℕ)) (step : OpeningStep) (bytes : List ℕ) (sets : Sets) (old new : List Cell)
-    → LeavesOldOrNew area id disk old → HoldsAt area id disk step sets old
+-- a job that a step has in hand leaves all as it is to be, once it was made too
+step_in_hand : (area : Area) (id : ℕ) (disk : List (List ℕ)) (step : OpeningStep) (bytes : List ℕ) (old new : List Cell)
+    → LeavesOldOrNew area id disk old → CellsAt area id disk step old
     → MadeBy true (job_at area step) (unwrap_or (bytes_at area id step) bytes) old new
-    → LeavesOldOrNew area id disk new × HoldsAt area id disk step sets new
-step_in_hand area id disk ReadHeader bytes sets old new leaves holds (read, same) = rw same (leaves, holds)
-step_in_hand area id disk (ReadBits k) bytes sets old new leaves holds (read, same) = rw same (leaves, holds)
-step_in_hand area id disk (WriteZeros k) bytes sets old new leaves (none, zeros, header) made =
-    rw made (leaves_zeros area id disk k old leaves, (none, zeros_stand area k old zeros, header_stays area id disk k old header))
-step_in_hand area id disk FlushZeros bytes sets old new leaves holds made =
+    → LeavesOldOrNew area id disk new × CellsAt area id disk step new
+step_in_hand area id disk ReadHeader bytes old new leaves holds (read, same) = rw same (leaves, holds)
+step_in_hand area id disk (ReadBits k) bytes old new leaves holds (read, same) = rw same (leaves, holds)
+step_in_hand area id disk (WriteZeros k) bytes old new leaves (none, header, zeros) made =
+    rw made (leaves_zeros area id disk k old leaves, (none, header_stays area disk k old header, bits_stand k (λ i. zero_bits) area old zeros))
+step_in_hand area id disk FlushZeros bytes old new leaves holds made =
     rw made (
       leaves_forgets area id disk old (all_flushed old) (flush_forgets old) leaves,
-      holds_forgets area id disk FlushZeros sets old (all_flushed old) (flush_forgets old) holds,
+      cells_forget area id disk FlushZeros old (all_flushed old) (flush_forgets old) holds,
     )
-step_in_hand area id disk WriteHeader bytes sets old new leaves (none, zeros) made =
-    rw made (leaves_header area id disk old leaves, (none, only_zeros_stay area id disk old zeros))
-step_in_hand area id disk FlushHeader bytes sets old new leaves holds made =
+step_in_hand area id disk WriteHeader bytes old new leaves (none, zeros) made =
+    rw made (leaves_header area id disk old leaves, (none, only_zeros_stay area id old zeros))
+step_in_hand area id disk FlushHeader bytes old new leaves holds made =
     rw made (
       leaves_forgets area id disk old (all_flushed old) (flush_forgets old) leaves,
-      holds_forgets area id disk FlushHeader sets old (all_flushed old) (flush_forgets old) holds,
+      cells_forget area id disk FlushHeader old (all_flushed old) (flush_forgets old) holds,
     )
-step_in_hand area id disk Ended bytes sets old new leaves holds made = rw made (leaves, holds)
+step_in_hand area id disk Ended bytes old new leaves holds made = rw made (leaves, holds)
 
-step_failed : (area : Area) (id : ℕ) (disk : List (List ℕ)) (step : OpeningStep) (job : Option OwnJob) (bytes : List ℕ) (sets : Sets) (old new : List Cell)
-    → job_at area step ≡ job → LeavesOldOrNew area id disk old → HoldsAt area id disk step sets old
+step_failed : (area : Area) (id : ℕ) (disk : List (List ℕ)) (step : OpeningStep) (job : Option OwnJob) (bytes : List ℕ) (old new : List Cell)
+    → job_at area step ≡ job → LeavesOldOrNew area id disk old → CellsAt area id disk step old
     → MadeBy false job (unwrap_or (bytes_at area id step) bytes) old new
-    → LeavesOldOrNew area id disk new × HoldsAt area id disk step sets new
-step_failed area id disk step None bytes sets old new next leaves holds made = rw made (leaves, holds)
-step_failed area id disk step (Some job) bytes sets old new next leaves holds (inl same) = rw same (leaves, holds)
-step_failed area id disk step (Some job) bytes sets old new next leaves holds (inr done) =
-    step_in_hand area id disk step bytes sets old new leaves holds
+    → LeavesOldOrNew area id disk new × CellsAt area id disk step new
+step_failed area id disk step None bytes old new next leaves holds made = rw made (leaves, holds)
+step_failed area id disk step (Some job) bytes old new next leaves holds (inl same) = rw same (leaves, holds)
+step_failed area id disk step (Some job) bytes old new next leaves holds (inr done) =
+    step_in_hand area id disk step bytes old new leaves holds
     (subst (λ it. MadeBy true it (unwrap_or (bytes_at area id step) bytes) old new) (sym next) done)
 
 -- an opening stands while its job is in hand
 pub opens_in_hand : (disk : List (List ℕ)) (o : OpeningState) (bytes : List ℕ) (sets : Sets) (old new : List Cell) → Opens disk o sets old
     → MadeBy false (next_in_opening o) (unwrap_or (bytes_to_open o) bytes) old new → Opens disk o sets new
 opens_in_hand disk o bytes sets old new opens made =
-    let left = step_failed o.area o.id disk o.step (next_in_opening o) bytes sets old new refl opens.sectors opens.step made in
-    record { sectors = left.0; step = left.1 }
+    let left = step_failed o.area o.id disk o.step (next_in_opening o) bytes old new refl opens.sectors opens.step made in
+    record { bitmap = opens.bitmap; sectors = left.0; step = left.1 }
 
 -- an opening goes on where its job ended, well or not
 pub opens_after : (ok : Bool) (disk : List (List ℕ)) (o : OpeningState) (bytes : List ℕ) (sets : Sets) (old new : List Cell)
@@ -326,8 +271,8 @@ pub opens_after : (ok : Bool) (disk : List (List ℕ)) (o : OpeningState) (bytes
     → Opens disk (opening_after ok bytes o) (sets_after_opening ok bytes o sets) new
 opens_after false disk o bytes sets old new reached opens made = opens_in_hand disk o bytes sets old new opens made
 opens_after true disk o bytes sets old new reached opens made =
-    let left = step_done o.area o.id disk o.step bytes sets old new reached opens.sectors opens.step made in
-    record { sectors = left.0; step = left.1 }
+    let left = step_done o.area o.id disk o.step bytes sets old new reached opens.bitmap opens.sectors opens.step made in
+    record { bitmap = left.0; sectors = left.1; step = left.2 }
 
 -- the header that a cut leaves, where the disk's was the run's
 header_left : (area : Area) (id : ℕ) (disk : List (List ℕ)) (cells : List Cell) (outcome : List (List ℕ)) → LeavesOldOrNew area id disk cells
@@ -339,6 +284,13 @@ header_left area id disk cells outcome leaves header left =
       | inr new ↦ new ∙ sym header
     ]
 
+-- the header that a cut leaves, where it wasn't written
+old_header_left : (area : Area) (id : ℕ) (disk : List (List ℕ)) (cells : List Cell) (outcome : List (List ℕ)) → LeavesOldOrNew area id disk cells
+    → HasOldHeader area disk cells → IsOutcome cells outcome → sector_at (reserved_of area) outcome ≡ sector_at (reserved_of area) disk
+old_header_left area id disk cells outcome leaves header left =
+    let reserved = leaves.reserved in
+    left_by_cut (λ value. value ≡ sector_at (reserved_of area) disk) (reserved_of area) cells outcome (omega arith) header left
+
 bits_left : (area : Area) (id : ℕ) (disk : List (List ℕ)) (cells : List Cell) (outcome : List (List ℕ)) → LeavesOldOrNew area id disk cells
     → HasOldBits area disk cells → IsOutcome cells outcome
     → (k : ℕ) → k < bitmap_sectors_of area → bitmap_sector area outcome k ≡ bitmap_sector area disk k
@@ -346,42 +298,40 @@ bits_left area id disk cells outcome leaves bits left k inside =
     let reserved = leaves.reserved in
     left_by_cut (λ value. value ≡ bitmap_sector area disk k) (sector_of_bits area k) cells outcome (omega arith) (bits k inside) left
 
-old_header_left : (area : Area) (id : ℕ) (disk : List (List ℕ)) (cells : List Cell) (outcome : List (List ℕ)) → LeavesOldOrNew area id disk cells
-    → HasOldHeader area id disk cells → IsOutcome cells outcome → stored_blocks area id outcome ≡ stored_blocks area id disk
-old_header_left area id disk cells outcome leaves has left =
-    let reserved = leaves.reserved in
-    let same = left_by_cut (λ value. value ≡ sector_at (reserved_of area) disk) (reserved_of area) cells outcome (omega arith) has.header left in
-    none_stored area id outcome (λ header. has.none (sym same ∙ header)) ∙ sym (none_stored area id disk has.none)
+-- without the header before and after, no block is stored before and after
+none_left : (area : Area) (id : ℕ) (disk : List (List ℕ)) (cells : List Cell) (outcome : List (List ℕ)) → LeavesOldOrNew area id disk cells
+    → ¬ HasHeader area id disk → HasOldHeader area disk cells → IsOutcome cells outcome
+    → stored_blocks area id outcome ≡ stored_blocks area id disk
+none_left area id disk cells outcome leaves none header left =
+    let same = old_header_left area id disk cells outcome leaves header left in
+    none_stored area id outcome (λ yes. none (sym same ∙ yes)) ∙ sym (none_stored area id disk none)
 
 zeros_left : (area : Area) (id : ℕ) (disk : List (List ℕ)) (cells : List Cell) (outcome : List (List ℕ)) → LeavesOldOrNew area id disk cells
-    → HasOnlyZeros area id disk cells → IsOutcome cells outcome → stored_blocks area id outcome ≡ stored_blocks area id disk
-zeros_left area id disk cells outcome leaves zeros left =
+    → ¬ HasHeader area id disk → HasOnlyZeros area cells → IsOutcome cells outcome
+    → stored_blocks area id outcome ≡ stored_blocks area id disk
+zeros_left area id disk cells outcome leaves none zeros left =
     let reserved = leaves.reserved in
     zeros_stored area id outcome
-    (λ k inside. left_by_cut (λ value. value ≡ zero_bits) (sector_of_bits area k) cells outcome (omega arith) (zeros.bits k inside) left)
-    ∙ sym (none_stored area id disk zeros.none)
+    (λ k inside. left_by_cut (λ value. value ≡ zero_bits) (sector_of_bits area k) cells outcome (omega arith) (zeros k inside) left)
+    ∙ sym (none_stored area id disk none)
 
-step_cut : (area : Area) (id : ℕ) (disk : List (List ℕ)) (step : OpeningStep) (sets : Sets) (cells : List Cell) (outcome : List (List ℕ))
-    → LeavesOldOrNew area id disk cells → HoldsAt area id disk step sets cells → IsOutcome cells outcome
+step_cut : (area : Area) (id : ℕ) (disk : List (List ℕ)) (step : OpeningStep) (cells : List Cell) (outcome : List (List ℕ))
+    → LeavesOldOrNew area id disk cells → CellsAt area id disk step cells → IsOutcome cells outcome
     → stored_blocks area id outcome ≡ stored_blocks area id disk
-step_cut area id disk ReadHeader sets cells outcome leaves (none, bits, header) left =
-    let reserved = leaves.reserved in
-    same_stored area id outcome disk
-    (left_by_cut (λ value. value ≡ sector_at (reserved_of area) disk) (reserved_of area) cells outcome (omega arith) header left)
-    (bits_left area id disk cells outcome leaves bits left)
-step_cut area id disk (ReadBits k) sets cells outcome leaves (so_far, bits, header) left =
+step_cut area id disk ReadHeader cells outcome leaves (header, bits) left =
+    same_stored area id outcome disk (old_header_left area id disk cells outcome leaves header left) (bits_left area id disk cells outcome leaves bits left)
+step_cut area id disk (ReadBits k) cells outcome leaves (header, bits) left =
     same_stored area id outcome disk (header_left area id disk cells outcome leaves header left) (bits_left area id disk cells outcome leaves bits left)
-step_cut area id disk (WriteZeros k) sets cells outcome leaves (none, zeros, header) left = old_header_left area id disk cells outcome leaves header left
-step_cut area id disk FlushZeros sets cells outcome leaves (none, zeros, header) left = old_header_left area id disk cells outcome leaves header left
-step_cut area id disk WriteHeader sets cells outcome leaves (none, zeros) left = zeros_left area id disk cells outcome leaves zeros left
-step_cut area id disk FlushHeader sets cells outcome leaves (none, zeros, header) left = zeros_left area id disk cells outcome leaves zeros left
-step_cut area id disk Ended sets cells outcome leaves (all, kept) left =
-    cut_stores_set area id sets.stored cells outcome kept left ∙ ap (λ s. s.stored) all
+step_cut area id disk (WriteZeros k) cells outcome leaves (none, header, zeros) left = none_left area id disk cells outcome leaves none header left
+step_cut area id disk FlushZeros cells outcome leaves (none, header, zeros) left = none_left area id disk cells outcome leaves none header left
+step_cut area id disk WriteHeader cells outcome leaves (none, zeros) left = zeros_left area id disk cells outcome leaves none zeros left
+step_cut area id disk FlushHeader cells outcome leaves (none, zeros, header) left = zeros_left area id disk cells outcome leaves none zeros left
+step_cut area id disk Ended cells outcome leaves kept left = cut_stores_set area id (stored_blocks area id disk) cells outcome kept left
 
 -- a cut in an opening leaves the disk's stored blocks
 pub opening_cut : (disk : List (List ℕ)) (o : OpeningState) (sets : Sets) (cells : List Cell) (outcome : List (List ℕ)) → Opens disk o sets cells
     → IsOutcome cells outcome → stored_blocks o.area o.id outcome ≡ stored_blocks o.area o.id disk
-opening_cut disk o sets cells outcome opens left = step_cut o.area o.id disk o.step sets cells outcome opens.sectors opens.step left
+opening_cut disk o sets cells outcome opens left = step_cut o.area o.id disk o.step cells outcome opens.sectors opens.step left
 
 same_map : {X : Type 0} (f g : ℕ → X) (n : ℕ) (d : X) → ((k : ℕ) → k < n → f k ≡ g k) → map f (range_with_len 0 n) ≡ map g (range_with_len 0 n)
 same_map f g n d same =
@@ -411,16 +361,16 @@ opens_at_power_on area id disk suitable some long =
     let begins : (if area.image == 0 then Ended else ReadHeader) ≡ ReadHeader =
     elim (eqb_tells area.image 0) [ inl (test, none) ↦ absurd (omega arith) | inr (test, apart) ↦ rw test refl ] in
     record {
+      bitmap = rw begins refl;
       sectors = record {
         reserved = reserved ∙ sym long ∙ sym (length-map disk settled);
         others = λ s below. at_power_on (λ value. value ≡ sector_at s disk) s disk (omega arith) refl;
         header = at_power_on (IsEither (sector_at (reserved_of area) disk) (header_of area id)) (reserved_of area) disk (omega arith) (inl refl);
         bits = λ k inside. at_power_on (IsEither (bitmap_sector area disk k) zero_bits) (sector_of_bits area k) disk (omega arith) (inl refl);
       };
-      step = subst (λ step. HoldsAt area id disk step (empty_sets (blocks_of area)) (stored disk)) (sym begins) (
-        refl,
-        (λ k inside. at_power_on (λ value. value ≡ bitmap_sector area disk k) (sector_of_bits area k) disk (omega arith) refl),
+      step = subst (λ step. CellsAt area id disk step (stored disk)) (sym begins) (
         at_power_on (λ value. value ≡ sector_at (reserved_of area) disk) (reserved_of area) disk (omega arith) refl,
+        λ k inside. at_power_on (λ value. value ≡ bitmap_sector area disk k) (sector_of_bits area k) disk (omega arith) refl,
       );
     }
 
@@ -454,32 +404,35 @@ either_bits_left disk o sets cells outcome opens left k inside =
     let reserved = opens.sectors.reserved in
     left_by_cut (IsEither (bitmap_sector o.area disk k) zero_bits) (sector_of_bits o.area k) cells outcome (omega arith) (opens.sectors.bits k inside) left
 
--- where no job is next
+-- where no job is next, the bitmap has the disk's stored blocks, and a cut leaves these
 at_end : (area : Area) (id : ℕ) (disk : List (List ℕ)) (step : OpeningStep) (sets : Sets) (cells : List Cell)
-    → HoldsAt area id disk step sets cells → job_at area step ≡ None → HoldsAt area id disk Ended sets cells
-at_end area id disk ReadHeader sets cells holds none = absurd (cc)
-at_end area id disk (ReadBits k) sets cells holds none = absurd (cc)
-at_end area id disk (WriteZeros k) sets cells holds none = absurd (cc)
-at_end area id disk FlushZeros sets cells holds none = absurd (cc)
-at_end area id disk WriteHeader sets cells holds none = absurd (cc)
-at_end area id disk FlushHeader sets cells holds none = absurd (cc)
-at_end area id disk Ended sets cells holds none = holds
+    → sets ≡ alike (blocks_at area id disk step) → CellsAt area id disk step cells → job_at area step ≡ None
+    → (sets ≡ alike (stored_blocks area id disk)) × KeepsBits area id (stored_blocks area id disk) (stored_blocks area id disk) cells
+at_end area id disk ReadHeader sets cells all holds none = absurd (cc)
+at_end area id disk (ReadBits k) sets cells all holds none = absurd (cc)
+at_end area id disk (WriteZeros k) sets cells all holds none = absurd (cc)
+at_end area id disk FlushZeros sets cells all holds none = absurd (cc)
+at_end area id disk WriteHeader sets cells all holds none = absurd (cc)
+at_end area id disk FlushHeader sets cells all holds none = absurd (cc)
+at_end area id disk Ended sets cells all holds none = (all, holds)
 
 -- the bitmap's stored blocks are those of the drive's sectors, which a cut may leave as they are
 pub ended_stored : (disk : List (List ℕ)) (o : OpeningState) (sets : Sets) (cells : List Cell) → IsOutcome cells (map current cells)
     → Opens disk o sets cells → next_in_opening o ≡ None → sets.stored ≡ stored_blocks o.area o.id (map current cells)
 ended_stored disk o sets cells left opens none =
-    let (all, kept) = at_end o.area o.id disk o.step sets cells opens.step none in
-    sym (cut_stores_set o.area o.id sets.stored cells (map current cells) kept left)
+    let (all, kept) = at_end o.area o.id disk o.step sets cells opens.bitmap opens.step none in
+    ap (λ s. s.stored) all ∙ sym (cut_stores_set o.area o.id (stored_blocks o.area o.id disk) cells (map current cells) kept left)
 
 -- and so are the filled ones
 pub ended_filled : (disk : List (List ℕ)) (o : OpeningState) (sets : Sets) (cells : List Cell)
     → Opens disk o sets cells → next_in_opening o ≡ None → sets.filled ≡ sets.stored
 ended_filled disk o sets cells opens none =
-    let (all, kept) = at_end o.area o.id disk o.step sets cells opens.step none in
+    let (all, kept) = at_end o.area o.id disk o.step sets cells opens.bitmap opens.step none in
     ap (λ s. s.filled) all ∙ sym (ap (λ s. s.stored) all)
 
 -- a cut leaves these
 pub ended_kept : (disk : List (List ℕ)) (o : OpeningState) (sets : Sets) (cells : List Cell)
     → Opens disk o sets cells → next_in_opening o ≡ None → KeepsBits o.area o.id sets.stored sets.stored cells
-ended_kept disk o sets cells opens none = (at_end o.area o.id disk o.step sets cells opens.step none).1
+ended_kept disk o sets cells opens none =
+    let (all, kept) = at_end o.area o.id disk o.step sets cells opens.bitmap opens.step none in
+    subst (λ set. KeepsBits o.area o.id set set cells) (sym (ap (λ s. s.stored) all)) kept

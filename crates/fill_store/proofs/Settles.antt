@@ -1,8 +1,6 @@
 -- What stands on the drive while a settling goes on.
-use Rattle.std.proofs.Common.{◌≡◌, ℕ, ◌==◌, ◌+◌, ◌<◌, Bool, true, false, if◌then◌else◌, Option, Some, None, unwrap_or, List, [], length, arith, refl, ap, sym, ◌∙◌, inl, inr}
+use Rattle.std.proofs.Common.{◌≡◌, ℕ, ◌+◌, ◌<◌, Bool, true, false, Option, Some, None, unwrap_or, List, [], arith, refl, sym, ◌∙◌, inl, inr}
 use Rattle.std.proofs.Math.Path.{subst}
-use Rattle.std.proofs.lemmas.Bool.{cases_lt}
-use Rattle.std.proofs.lemmas.Bool.Decides.{eqb_tells}
 use Rattle.ata_taskfile.specs.Device.{Cell}
 use Rattle.plain_drive.specs.Plain.{appended, all_flushed}
 use Rattle.own_pio.specs.declared.job.OwnJob.{OwnJob}
@@ -10,33 +8,24 @@ use Rattle.fill_bitmap.specs.declared.area.Area.{Area}
 use Rattle.fill_bitmap.specs.Area.{blocks_of, bitmap_sectors_of, reserved_of}
 use Rattle.fill_bitmap.specs.Bits.{sector_of}
 use Rattle.fill_bitmap.specs.Bitmap.{Sets, IsNested, blocks_in, frozen_now, frozen_stored}
-use Rattle.fill_bitmap.specs.BlockSet.{has, IsWithin}
-use Rattle.fill_bitmap.specs.Disk.{header_of}
-use Rattle.fill_bitmap.proofs.Bytes.{bit_written}
+use Rattle.fill_bitmap.specs.BlockSet.{IsWithin}
 use Rattle.fill_store.specs.declared.settle.SettleStep.{SettleStep}
 use Rattle.fill_store.specs.declared.settle.SettleStep.TheVariants.{FlushData, WriteBits, FlushBits, Ended}
 use Rattle.fill_store.specs.Sectors.{sector_of_bits}
-use Rattle.fill_store.specs.Cells.{value_at, MadeBy, ForgetsOld, HasBitsBetween, KeepsBits}
+use Rattle.fill_store.specs.Cells.{MadeBy, ForgetsOld, KeepsBits}
 use Rattle.fill_store.specs.Settle.{SettleState, settle_of, IsReached, job_at, bytes_at, next_in_settling, bytes_to_settle, bits_from, step_after, sets_behind, settle_after, sets_after_settling}
 use Rattle.fill_store.specs.SettleCells.{HasFrozen, HoldsAt, MadeBySettling, Settles, durable_behind, durable_after}
-use Rattle.fill_store.proofs.Values.{each_map, each_written, other_written, newest_written, length-appended, each_flushed, flush_forgets}
-use Rattle.fill_store.proofs.Opens.{keeps_forgets, keeps_elsewhere}
-
--- the sector that is written has the bits of the frozen blocks
-frozen_between : (area : Area) (k : ℕ) (least set : List Bool) → IsWithin least set → HasBitsBetween area k least set (sector_of k set)
-frozen_between area k least set within = record {
-  least_set = λ b at held. bit_written k b set at ∙ within b held;
-  set_most = λ b inside at bit. sym (bit_written k b set at) ∙ bit;
-}
+use Rattle.fill_store.proofs.Values.{flush_forgets, on_test}
+use Rattle.fill_store.proofs.Keeps.{bits_forget, bits_elsewhere, bits_stand, one_more, keeps_forgets, keeps_elsewhere, keeps_written, keeps_frozen, keeps_more}
 
 -- a settling stands where older values were forgotten
 holds_forgets : (area : Area) (durable : List Bool) (step : SettleStep) (sets : Sets) (old new : List Cell) → ForgetsOld old new
     → HoldsAt area durable step sets old → HoldsAt area durable step sets new
 holds_forgets area durable FlushData sets old new forgets within = within
 holds_forgets area durable (WriteBits k) sets old new forgets (all, bits) =
-    (all, λ j below. forgets.newest (sector_of_bits area j) ∙ bits j below)
+    (all, bits_forget k (λ i. sector_of i sets.frozen) area old new forgets bits)
 holds_forgets area durable FlushBits sets old new forgets (all, bits) =
-    (all, λ j below. forgets.newest (sector_of_bits area j) ∙ bits j below)
+    (all, bits_forget (bitmap_sectors_of area) (λ i. sector_of i sets.frozen) area old new forgets bits)
 holds_forgets area durable Ended sets old new forgets within = within
 
 pub settles_forgets : (id : ℕ) (durable : List Bool) (s : SettleState) (sets : Sets) (old new : List Cell) → ForgetsOld old new
@@ -53,9 +42,9 @@ holds_elsewhere : (area : Area) (durable : List Bool) (step : SettleStep) (sets 
     → sector < reserved_of area → HoldsAt area durable step sets cells → HoldsAt area durable step sets (appended sector bytes cells)
 holds_elsewhere area durable FlushData sets sector bytes cells elsewhere within = within
 holds_elsewhere area durable (WriteBits k) sets sector bytes cells elsewhere (all, bits) =
-    (all, λ j below. other_written sector (sector_of_bits area j) bytes cells (λ e. omega arith) ∙ bits j below)
+    (all, bits_elsewhere k (λ i. sector_of i sets.frozen) area sector bytes cells elsewhere bits)
 holds_elsewhere area durable FlushBits sets sector bytes cells elsewhere (all, bits) =
-    (all, λ j below. other_written sector (sector_of_bits area j) bytes cells (λ e. omega arith) ∙ bits j below)
+    (all, bits_elsewhere (bitmap_sectors_of area) (λ i. sector_of i sets.frozen) area sector bytes cells elsewhere bits)
 holds_elsewhere area durable Ended sets sector bytes cells elsewhere within = within
 
 pub settles_elsewhere : (id : ℕ) (durable : List Bool) (s : SettleState) (sets : Sets) (sector : ℕ) (bytes : List ℕ) (cells : List Cell)
@@ -67,62 +56,12 @@ settles_elsewhere id durable s sets sector bytes cells settles elsewhere = recor
   step = holds_elsewhere s.area durable s.step sets sector bytes cells elsewhere settles.step;
 }
 
--- a write of frozen bits leaves what a cut may leave between its sets
-keeps_written : (area : Area) (id : ℕ) (least set : List Bool) (k : ℕ) (cells : List Cell) → IsWithin least set
-    → KeepsBits area id least set cells → KeepsBits area id least set (appended (sector_of_bits area k) (sector_of k set) cells)
-keeps_written area id least set k cells within kept = record {
-  reserved = kept.reserved ∙ sym (length-appended (sector_of_bits area k) (sector_of k set) cells);
-  blocks = kept.blocks;
-  header = each_written (λ value. value ≡ header_of area id) (sector_of_bits area k) (reserved_of area) (sector_of k set) cells (λ e. absurd (omega arith)) kept.header;
-  bits = λ j inside. each_written (HasBitsBetween area j least set) (sector_of_bits area k) (sector_of_bits area j) (sector_of k set) cells
-      (λ e. let same : k ≡ j = omega arith in subst (λ i. HasBitsBetween area j least set (sector_of i set)) (sym same) (frozen_between area j least set within))
-      (kept.bits j inside);
-}
-
--- after the last flush the frozen bits are all that a cut may leave
-keeps_frozen : (area : Area) (id : ℕ) (least most set : List Bool) (cells : List Cell) → length set ≡ blocks_of area
-    → ((k : ℕ) → k < bitmap_sectors_of area → value_at (sector_of_bits area k) cells ≡ sector_of k set)
-    → KeepsBits area id least most cells → KeepsBits area id set set (all_flushed cells)
-keeps_frozen area id least most set cells long bits kept =
-    let after = keeps_forgets area id least most cells (all_flushed cells) (flush_forgets cells) kept in
-    record {
-      reserved = after.reserved;
-      blocks = long;
-      header = after.header;
-      bits = λ k inside. each_flushed (HasBitsBetween area k set set) (sector_of_bits area k) cells
-          (subst (HasBitsBetween area k set set) (sym (bits k inside)) (frozen_between area k set set (λ b held. held)));
-    }
-
-on_test : (P : SettleStep → Type 0) (k n : ℕ) (behind more : SettleStep) → (k ≡ n → P behind) → P more → P (if k == n then behind else more)
-on_test P k n behind more at_end else_on = elim (eqb_tells k n) [
-  | inl (test, same) ↦ rw test (at_end same)
-  | inr (test, apart) ↦ rw test else_on
-]
-
 -- from one sector on, once those before it are written
 bits_on : (area : Area) (durable : List Bool) (k : ℕ) (sets : Sets) (cells : List Cell) → durable ≡ sets.frozen → HasFrozen k area sets cells
     → HoldsAt area durable (bits_from area k) sets cells
 bits_on area durable k sets cells all bits =
     on_test (λ step. HoldsAt area durable step sets cells) k (bitmap_sectors_of area) FlushBits (WriteBits k)
     (λ end. (all, subst (λ n. HasFrozen n area sets cells) end bits)) (all, bits)
-
-bits_stand : (area : Area) (k : ℕ) (sets : Sets) (cells : List Cell) → HasFrozen k area sets cells
-    → HasFrozen k area sets (appended (sector_of_bits area k) (sector_of k sets.frozen) cells)
-bits_stand area k sets cells bits j below =
-    other_written (sector_of_bits area k) (sector_of_bits area j) (sector_of k sets.frozen) cells (λ e. omega arith) ∙ bits j below
-
-one_more : (area : Area) (k : ℕ) (sets : Sets) (cells : List Cell) → sector_of_bits area k < length cells → HasFrozen k area sets cells
-    → HasFrozen (k + 1) area sets (appended (sector_of_bits area k) (sector_of k sets.frozen) cells)
-one_more area k sets cells there bits j below = elim (cases_lt j k) [
-  | inl before ↦ bits_stand area k sets cells bits j before
-  | inr past ↦
-      let same : j ≡ k = omega arith in
-      ap (λ i. value_at (sector_of_bits area i) (appended (sector_of_bits area k) (sector_of k sets.frozen) cells)) same
-      ∙ newest_written (sector_of_bits area k) (sector_of k sets.frozen) cells there ∙ ap (λ i. sector_of i sets.frozen) (sym same)
-]
-
-stored_within : (sets : Sets) (b : ℕ) → IsNested sets → has sets.stored b ≡ true → has sets.frozen b ≡ true
-stored_within sets b nested held = nested.stored_frozen b held
 
 stored_nested : (sets : Sets) → IsNested sets → IsNested (frozen_stored sets)
 stored_nested sets nested = record {
@@ -136,18 +75,6 @@ stored_nested sets nested = record {
 kept_frozen : (area : Area) (id : ℕ) (durable : List Bool) (sets : Sets) (cells : List Cell) → durable ≡ sets.frozen
     → KeepsBits area id sets.stored durable cells → KeepsBits area id sets.stored sets.frozen cells
 kept_frozen area id durable sets cells all kept = subst (λ most. KeepsBits area id sets.stored most cells) all kept
-
--- where the data of more blocks is durable, a cut leaves no other block than these
-keeps_more : (area : Area) (id : ℕ) (least most wider : List Bool) (cells : List Cell) → IsWithin most wider
-    → KeepsBits area id least most cells → KeepsBits area id least wider cells
-keeps_more area id least most wider cells within kept = record {
-  reserved = kept.reserved;
-  blocks = kept.blocks;
-  header = kept.header;
-  bits = λ k inside. each_map (HasBitsBetween area k least most) (HasBitsBetween area k least wider) (sector_of_bits area k) cells
-      (λ value between. record { least_set = between.least_set; set_most = λ b below at bit. within b (between.set_most b below at bit) })
-      (kept.bits k inside);
-}
 
 -- a settling at a step that was done
 step_done : (id : ℕ) (area : Area) (durable : List Bool) (step : SettleStep) (bytes : List ℕ) (sets : Sets) (old new : List Cell)
@@ -167,7 +94,7 @@ step_done id area durable (WriteBits k) bytes sets old new reached nested blocks
     rw made (
       subst (λ most. KeepsBits area id sets.stored most (appended (sector_of_bits area k) (sector_of k sets.frozen) old)) (sym all)
           (keeps_written area id sets.stored sets.frozen k old nested.stored_frozen (kept_frozen area id durable sets old all kept)),
-      bits_on area durable (k + 1) sets (appended (sector_of_bits area k) (sector_of k sets.frozen) old) all (one_more area k sets old (omega arith) bits),
+      bits_on area durable (k + 1) sets (appended (sector_of_bits area k) (sector_of k sets.frozen) old) all (one_more k (λ i. sector_of i sets.frozen) area old (omega arith) bits),
     )
 step_done id area durable FlushBits bytes sets old new reached nested blocks kept (all, bits) made =
     rw made (
@@ -188,7 +115,7 @@ step_in_hand id area durable (WriteBits k) bytes sets old new nested kept (all, 
     rw made (
       subst (λ most. KeepsBits area id sets.stored most (appended (sector_of_bits area k) (sector_of k sets.frozen) old)) (sym all)
           (keeps_written area id sets.stored sets.frozen k old nested.stored_frozen (kept_frozen area id durable sets old all kept)),
-      (all, bits_stand area k sets old bits),
+      (all, bits_stand k (λ i. sector_of i sets.frozen) area old bits),
     )
 step_in_hand id area durable FlushBits bytes sets old new nested kept holds made =
     rw made (

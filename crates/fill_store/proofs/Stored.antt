@@ -15,6 +15,7 @@ use Rattle.fill_bitmap.specs.Area.{blocks_of, bitmap_sectors_of, reserved_of}
 use Rattle.fill_bitmap.specs.Bits.{has_bit}
 use Rattle.fill_bitmap.specs.BlockSet.{has, empty_set, IsWithin}
 use Rattle.fill_bitmap.specs.Disk.{sector_at, header_of, HasHeader, has_header, bitmap_sector, says_stored, stored_blocks}
+use Rattle.fill_bitmap.proofs.Disks.{has-empty_set}
 use Rattle.fill_store.specs.Sectors.{sector_of_bits, zero_bits}
 use Rattle.fill_store.specs.Cells.{KeepsBits, HasBitsBetween}
 use Rattle.fill_store.proofs.Values.{left_by_cut}
@@ -29,10 +30,6 @@ both_ways false false there back = refl
 both_ways true false there back = sym (there refl)
 both_ways false true there back = back refl
 
-pub untrue : (x : Bool) → (x ≡ true → ⊥) → x ≡ false
-untrue true none = absurd (none refl)
-untrue false none = refl
-
 with_header : (area : Area) (id : ℕ) (disk : List (List ℕ)) → HasHeader area id disk → has_header area id disk ≡ true
 with_header area id disk header = (bytes_eq-Decides (sector_at (reserved_of area) disk) (header_of area id)).1 header
 
@@ -42,22 +39,12 @@ pub stored_block : (area : Area) (id : ℕ) (disk : List (List ℕ)) (b : ℕ) �
 stored_block area id disk b header inside =
     rw (with_header area id disk header) (get_or-map-range_with_len (says_stored area disk) 0 (blocks_of area) b b false inside (omega arith))
 
--- without the header no block is stored
-pub none_stored : (area : Area) (id : ℕ) (disk : List (List ℕ)) → ¬ HasHeader area id disk → stored_blocks area id disk ≡ empty_set (blocks_of area)
-none_stored area id disk none =
-    let test : has_header area id disk ≡ false =
-    untrue (has_header area id disk) (λ h. none ((bytes_eq-Decides (sector_at (reserved_of area) disk) (header_of area id)).0 h)) in
-    rw test refl
-
 -- zeros have no bit set
 pub no_bit : (b : ℕ) → has_bit zero_bits b ≡ false
 unfolding zero_bits
 no_bit b =
     let nothing : get_or (replicate 512 0) (b % 4096 / 8) 0 ≡ 0 = get_or-replicate 512 (b % 4096 / 8) 0 0 (omega arith) in
     ap (λ byte. bit_at byte (b % 8) == 1) nothing ∙ ap (λ bit. bit == 1) (bit_at-zero (b % 8))
-
-pub no_block : (n b : ℕ) → b < n → has (empty_set n) b ≡ false
-no_block n b inside = get_or-replicate n b false false inside
 
 either_way : (test : Bool) (some none : List Bool) → some ≡ none → (if test then some else none) ≡ none
 either_way true some none same = same
@@ -69,7 +56,7 @@ pub zeros_stored : (area : Area) (id : ℕ) (disk : List (List ℕ))
 zeros_stored area id disk zeros =
     either_way (has_header area id disk) (map (says_stored area disk) (range_with_len 0 (blocks_of area))) (empty_set (blocks_of area))
     (sym (fill_by_all (says_stored area disk) (empty_set (blocks_of area)) (blocks_of area) false (length-replicate (blocks_of area) false)
-    (λ b inside. no_block (blocks_of area) b inside
+    (λ b inside. has-empty_set (blocks_of area) b
     ∙ sym (ap (λ bytes. has_bit bytes b) (zeros (b / 4096) (sector_of_block area b inside)) ∙ no_bit b))))
 
 -- disks with the same header and bitmap have the same stored blocks

@@ -1,7 +1,8 @@
 -- The values of cells: after a write, after a flush, after older ones were forgotten, and after a cut.
-use Rattle.std.proofs.Common.{◌≡◌, ◌≢◌, ℕ, zero, suc, ◌<◌, ◌++◌, List, [], ◌∷◌, length, map, get_or, arith, refl, ap, sym}
+use Rattle.std.proofs.Common.{◌≡◌, ◌≢◌, ℕ, zero, suc, ◌<◌, ◌++◌, List, [], ◌∷◌, length, map, get_or, arith, refl, ap, sym, ◌==◌, if◌then◌else◌, inl, inr}
 use Rattle.std.proofs.Math.Path.{subst}
 use Rattle.std.specs.Prelude.{All, Contains}
+use Rattle.std.proofs.lemmas.Bool.Decides.{eqb_tells}
 use Rattle.std.proofs.lemmas.List.{get_or_default, length-map}
 use Rattle.ata_taskfile.specs.Device.{Cell}
 use Rattle.plain_drive.specs.Plain.{current, values, settled, flushed, appended, all_flushed}
@@ -88,13 +89,18 @@ contained_newest : (durable : List ℕ) (written : List (List ℕ)) → Contains
 contained_newest durable [] = (0, omega arith, refl)
 contained_newest durable (value ∷ written) = (0, omega arith, refl)
 
+-- the newest value of a sector is all that a flush leaves of it
+pub flushed_alone : (s : ℕ) (cells : List Cell) (value : List ℕ) → Contains (values (cell_at s (all_flushed cells))) value → value ≡ value_at s cells
+flushed_alone s cells value held =
+    contained_alone (value_at s cells) value (subst (λ cell. Contains (values cell) value) (cell_flushed s cells) held)
+
 -- a flush forgets the older values
 pub flush_forgets : (cells : List Cell) → ForgetsOld cells (all_flushed cells)
 flush_forgets cells = record {
   cells = length-all_flushed cells;
   newest = λ s. newest_flushed s cells;
   values = λ s value held.
-      let only : value ≡ value_at s cells = contained_alone (value_at s cells) value (subst (λ cell. Contains (values cell) value) (cell_flushed s cells) held) in
+      let only = flushed_alone s cells value held in
       subst (Contains (values (cell_at s cells))) (sym only) (contained_newest (cell_at s cells).durable (cell_at s cells).written);
 }
 
@@ -124,3 +130,10 @@ pub at_power_on : (P : List ℕ → Type 0) (s : ℕ) (disk : List (List ℕ)) �
 at_power_on P s [] below here = absurd (omega arith)
 at_power_on P zero (value ∷ disk) below here = alone P value here
 at_power_on P (suc s) (value ∷ disk) below here = at_power_on P s disk (omega arith) here
+
+-- a test of two numbers, and what holds both ways
+pub on_test : {X : Type 0} (P : X → Type 0) (k n : ℕ) (same other : X) → (k ≡ n → P same) → P other → P (if k == n then same else other)
+on_test P k n same other at_same else_on = elim (eqb_tells k n) [
+  | inl (test, e) ↦ rw test (at_same e)
+  | inr (test, apart) ↦ rw test else_on
+]

@@ -24,17 +24,22 @@ value_at s cells = current (cell_at s cells)
 abbrev pub Each : (List ℕ → Type 0) → ℕ → List Cell → Type 0
 Each P s cells = All P (values (cell_at s cells))
 
+-- these are the newest values of the bitmap's first so many sectors
+abbrev pub HasBits : ℕ → (ℕ → List ℕ) → Area → List Cell → Type 0
+HasBits n bytes area cells = (k : ℕ) → k < n → value_at (sector_of_bits area k) cells ≡ bytes k
+
 -- the reserved sectors are the last of the drive: header, bitmap and dummy sector (own)
 abbrev pub HasReserved : Area → List Cell → Type 0
 HasReserved area cells = reserved_of area + (bitmap_sectors_of area + 2) ≡ length cells
 
--- what a job of one sector that was done made of a store; its bytes are those that were read or written (own: the disk model)
+-- what a job of one sector that was done made of a store; its bytes are those that were read or written
+-- (own: the disk model)
 abbrev pub IsDone : OwnJob → List ℕ → List Cell → List Cell → Type 0
 IsDone (Read s count) bytes old new = (bytes ≡ value_at s old) × (new ≡ old)
 IsDone (Write s count) bytes old new = new ≡ appended s bytes old
 IsDone Flush bytes old new = new ≡ all_flushed old
 
--- what a job that ended well or not, or hasn't ended, made of a store: unless it was done, all of it or nothing (own: the disk model)
+-- what a job made of a store that was done, or wasn't or hasn't ended: then all of it or nothing (own: the disk model)
 abbrev pub Made : Bool → OwnJob → List ℕ → List Cell → List Cell → Type 0
 Made true job bytes old new = IsDone job bytes old new
 Made false job bytes old new = (new ≡ old) ⊎ IsDone job bytes old new
@@ -44,20 +49,23 @@ abbrev pub MadeBy : Bool → Option OwnJob → List ℕ → List Cell → List C
 MadeBy ok None bytes old new = new ≡ old
 MadeBy ok (Some job) bytes old new = Made ok job bytes old new
 
--- a store in which older values were forgotten, as they are where a written value becomes durable (own: the disk model)
+-- a store in which older values were forgotten, as they are where a written one becomes durable (own: the disk model)
 pub record ForgetsOld (old new : List Cell) : Type 0 where
   pub cells : length new ≡ length old
   pub newest : (s : ℕ) → value_at s new ≡ value_at s old
-  pub values : (s : ℕ) (value : List ℕ) → Contains (values (cell_at s new)) value → Contains (values (cell_at s old)) value
+  pub values : (s : ℕ) (value : List ℕ) → Contains (values (cell_at s new)) value
+      → Contains (values (cell_at s old)) value
 
 -- bytes of the bitmap's sector `k` whose bits have each block of one set, and no block that another lacks
 pub record HasBitsBetween (area : Area) (k : ℕ) (least most : List Bool) (bytes : List ℕ) : Type 0 where
   pub least_set : (b : ℕ) → b / BLOCKS_OF_SECTOR ≡ k → has least b ≡ true → has_bit bytes b ≡ true
-  pub set_most : (b : ℕ) → b < blocks_of area → b / BLOCKS_OF_SECTOR ≡ k → has_bit bytes b ≡ true → has most b ≡ true
+  pub set_most : (b : ℕ) → b < blocks_of area → b / BLOCKS_OF_SECTOR ≡ k → has_bit bytes b ≡ true
+      → has most b ≡ true
 
 -- whatever a cut leaves of header and bitmap, the blocks of one set are stored, and no block that another lacks (own)
 pub record KeepsBits (area : Area) (id : ℕ) (least most : List Bool) (cells : List Cell) : Type 0 where
   pub reserved : HasReserved area cells
   pub blocks : length least ≡ blocks_of area
   pub header : Each (λ value. value ≡ header_of area id) (reserved_of area) cells
-  pub bits : (k : ℕ) → k < bitmap_sectors_of area → Each (HasBitsBetween area k least most) (sector_of_bits area k) cells
+  pub bits : (k : ℕ) → k < bitmap_sectors_of area
+      → Each (HasBitsBetween area k least most) (sector_of_bits area k) cells

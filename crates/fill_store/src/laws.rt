@@ -11,7 +11,7 @@ ghost use Rattle.fill_bitmap.specs.Bitmap.{Sets, IsNested, blocks_in, empty_sets
 ghost use Rattle.fill_bitmap.specs.BlockSet.{IsWithin};
 ghost use Rattle.fill_bitmap.specs.Disk.{HasHeader, header_of, sector_at, bitmap_sector, stored_blocks, guest_view};
 ghost use Rattle.fill_store.specs.Sectors.{zero_bits};
-ghost use Rattle.fill_store.specs.Cells.{KeepsBits, ForgetsOld};
+ghost use Rattle.fill_store.specs.Cells.{Each, KeepsBits, ForgetsOld, value_at};
 ghost use Rattle.fill_store.specs.Opening.{OpeningState, opening_of, next_in_opening};
 ghost use Rattle.fill_store.specs.OpeningCells.{IsEither, Opens, MadeByOpening};
 ghost use Rattle.fill_store.specs.Settle.{SettleState, settle_of};
@@ -36,8 +36,8 @@ pub fn an_opening_stands_between_its_jobs()
         (old new : List Cell) → Opens disk o sets old → ForgetsOld old new → Opens disk o sets new }
 {}
 
-/// A cut in an opening leaves each sector below the reserved ones as it was at power-on, the header old or the run's, and
-/// each sector of the bitmap old or zeros.
+/// A cut in an opening leaves each sector below the reserved ones as it was at power-on, the header old or the run's,
+/// and each sector of the bitmap old or zeros.
 pub fn a_cut_in_an_opening_leaves_old_or_new()
     ensures others { (disk : List (List ℕ)) (o : OpeningState) (sets : Sets) (cells : List Cell)
         (outcome : List (List ℕ)) → Opens disk o sets cells → IsOutcome cells outcome →
@@ -52,8 +52,8 @@ pub fn a_cut_in_an_opening_leaves_old_or_new()
         IsEither (bitmap_sector o.area disk k) zero_bits (bitmap_sector o.area outcome k) }
 {}
 
-/// A cut in an opening leaves the stored blocks that the disk had at power-on, and a guest finds what it would have found
-/// then.
+/// A cut in an opening leaves the stored blocks that the disk had at power-on, and a guest finds what it would have
+/// found then.
 pub fn a_cut_in_an_opening_stores_what_was_stored()
     ensures blocks { (disk : List (List ℕ)) (o : OpeningState) (sets : Sets) (cells : List Cell)
         (outcome : List (List ℕ)) → Opens disk o sets cells → IsOutcome cells outcome →
@@ -114,8 +114,8 @@ pub fn a_cut_in_a_settling_stores_durable_blocks()
         IsOutcome cells outcome → IsWithin (stored_blocks s.area id outcome) durable }
 {}
 
-/// Where whatever a cut leaves of header and bitmap has its bits between two sets, so have the stored blocks of what one
-/// left; and they are exactly one set, where the two are one, as they are behind a settling that succeeded.
+/// Where whatever a cut leaves of header and bitmap has its bits between two sets, the stored blocks of what one left
+/// are between them; and they are exactly one set where the two are one, as behind a settling that succeeded.
 pub fn a_cut_stores_between_the_sets()
     ensures least { (area : Area) (id : ℕ) (least most : List Bool) (cells : List Cell)
         (outcome : List (List ℕ)) → KeepsBits area id least most cells → IsOutcome cells outcome →
@@ -128,8 +128,8 @@ pub fn a_cut_stores_between_the_sets()
         stored_blocks area id outcome ≡ set }
 {}
 
-/// What a cut leaves of header and bitmap stays between its sets where older values of sectors are forgotten, and where a
-/// sector below the reserved ones is written.
+/// What a cut leaves of header and bitmap stays between its sets where older values of sectors are forgotten, and where
+/// a sector below the reserved ones is written.
 pub fn kept_bits_stand()
     ensures forgotten { (area : Area) (id : ℕ) (least most : List Bool) (old new : List Cell) →
         KeepsBits area id least most old → ForgetsOld old new → KeepsBits area id least most new }
@@ -138,7 +138,9 @@ pub fn kept_bits_stand()
         sector < reserved_of area → KeepsBits area id least most (appended sector bytes cells) }
 {}
 
-/// A flush forgets the older value of every sector.
-pub fn a_flush_forgets_older_values()
-    ensures { (cells : List Cell) → ForgetsOld cells (all_flushed cells) }
+/// A flush forgets the older values of every sector, and leaves the newest one alone.
+pub fn a_flush_leaves_the_newest_values()
+    ensures forgotten { (cells : List Cell) → ForgetsOld cells (all_flushed cells) }
+    ensures newest { (cells : List Cell) (s : ℕ) →
+        Each (λ value. value ≡ value_at s cells) s (all_flushed cells) }
 {}

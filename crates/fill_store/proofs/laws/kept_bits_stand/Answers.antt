@@ -1,4 +1,4 @@
-use Rattle.fill_store.proofs.Opens.{keeps_forgets, keeps_elsewhere}
+use Rattle.fill_store.proofs.Keeps.{keeps_forgets, keeps_elsewhere}
 use Rattle.fill_store.proofs.laws.kept_bits_stand.Goals as goal
 
 pub returns : goal.returns
