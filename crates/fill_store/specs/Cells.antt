@@ -39,7 +39,8 @@ IsDone (Read s count) bytes old new = (bytes ≡ value_at s old) × (new ≡ old
 IsDone (Write s count) bytes old new = new ≡ appended s bytes old
 IsDone Flush bytes old new = new ≡ all_flushed old
 
--- what a job made of a store that was done, or wasn't or hasn't ended: then all of it or nothing (own: the disk model)
+-- what a job made of a store: all of it where it was done, and all of it or nothing where it failed or goes on
+-- (own: the disk model)
 abbrev pub Made : Bool → OwnJob → List ℕ → List Cell → List Cell → Type 0
 Made true job bytes old new = IsDone job bytes old new
 Made false job bytes old new = (new ≡ old) ⊎ IsDone job bytes old new

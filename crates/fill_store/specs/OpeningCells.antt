@@ -52,7 +52,8 @@ HasOnlyZeros area cells =
 abbrev pub CellsAt : Area → ℕ → List (List ℕ) → OpeningStep → List Cell → Type 0
 CellsAt area id disk ReadHeader cells = HasOldHeader area disk cells × HasOldBits area disk cells
 CellsAt area id disk (ReadBits k) cells = HasHeader area id disk × HasOldBits area disk cells
-CellsAt area id disk (WriteZeros k) cells = (¬ HasHeader area id disk) × HasOldHeader area disk cells × HasZeros k area cells
+CellsAt area id disk (WriteZeros k) cells =
+    (¬ HasHeader area id disk) × HasOldHeader area disk cells × HasZeros k area cells
 CellsAt area id disk FlushZeros cells =
     (¬ HasHeader area id disk) × HasOldHeader area disk cells × HasZeros (bitmap_sectors_of area) area cells
 CellsAt area id disk WriteHeader cells = (¬ HasHeader area id disk) × HasOnlyZeros area cells
@@ -60,7 +61,7 @@ CellsAt area id disk FlushHeader cells =
     (¬ HasHeader area id disk) × HasOnlyZeros area cells × (value_at (reserved_of area) cells ≡ header_of area id)
 CellsAt area id disk Ended cells = KeepsBits area id (stored_blocks area id disk) (stored_blocks area id disk) cells
 
--- the blocks in each of the bitmap's sets at each step: those that were read so far, and the stored ones at the end (own)
+-- the blocks in each set of the bitmap at each step: those that were read so far, at the end the stored ones (own)
 abbrev pub blocks_at : Area → ℕ → List (List ℕ) → OpeningStep → List Bool
 blocks_at area id disk ReadHeader = empty_set (blocks_of area)
 blocks_at area id disk (ReadBits k) = with_sectors k area disk (empty_set (blocks_of area))
@@ -70,13 +71,13 @@ blocks_at area id disk WriteHeader = empty_set (blocks_of area)
 blocks_at area id disk FlushHeader = empty_set (blocks_of area)
 blocks_at area id disk Ended = stored_blocks area id disk
 
--- an opening whose drive had the sectors `disk` at power-on, with the bitmap and the drive's sectors as they are now (own)
+-- an opening whose drive had the sectors `disk` at power-on, with the bitmap and the drive's sectors as they are (own)
 pub record Opens (disk : List (List ℕ)) (o : OpeningState) (sets : Sets) (cells : List Cell) : Type 0 where
   pub bitmap : sets ≡ alike (blocks_at o.area o.id disk o.step)
   pub sectors : LeavesOldOrNew o.area o.id disk cells
   pub step : CellsAt o.area o.id disk o.step cells
 
--- what an opening's job, which ended well or not, made of the drive's sectors; the buffer begins with what was read (own)
+-- what an opening's job, which ended well or not, made of the drive's sectors; the buffer begins with what it read (own)
 abbrev pub MadeByOpening : Bool → OpeningState → List ℕ → List Cell → List Cell → Type 0
 MadeByOpening ok o buffer old new =
     MadeBy ok (next_in_opening o) (unwrap_or (bytes_to_open o) (take 512 buffer)) old new

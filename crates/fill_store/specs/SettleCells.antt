@@ -15,8 +15,8 @@ use Rattle.fill_store.specs.Settle.{SettleState, next_in_settling, bytes_to_sett
 abbrev pub HasFrozen : ℕ → Area → Sets → List Cell → Type 0
 HasFrozen n area sets cells = HasBits n (λ k. sector_of k sets.frozen) area cells
 
--- what holds at each step of the bitmap and of the drive, on which the data of the blocks `durable` is durable: no bit is
--- written before the data of the frozen blocks is (own)
+-- what holds at each step of the bitmap and of the drive, on which the data of the blocks `durable` is durable: no bit
+-- is written before the data of the frozen blocks is (own)
 abbrev pub HoldsAt : Area → List Bool → SettleStep → Sets → List Cell → Type 0
 HoldsAt area durable FlushData sets cells = IsWithin durable sets.frozen
 HoldsAt area durable (WriteBits k) sets cells = (durable ≡ sets.frozen) × HasFrozen k area sets cells

@@ -237,8 +237,8 @@ impl Settling {
 #[test]
 fn jobs_of_a_settling(rt: HostRuntime) -> Result<(), Fail> {
     let (old, bits) = ([0xee; 512], beginning_with(&[0x01]));
-    // The job that fails, if one does; the three jobs with what their ends answer, the buffer at last, and whether block
-    // 0 is stored then. Block 1, which was filled after the set was frozen, isn't.
+    // The job that fails, if one does; the three jobs with what their ends answer, the buffer at last, and whether
+    // block 0 is stored then. Block 1, which was filled after the set was frozen, isn't.
     let done = [
         Some((Flush, true)),
         Some((Write(78, 1), true)),
