@@ -11,6 +11,7 @@ use Rattle.ata_taskfile.specs.Device.{Cell}
 use Rattle.plain_drive.specs.Plain.{settled, current, appended, all_flushed, stored}
 use Rattle.plain_drive.specs.Cut.{IsOutcome}
 use Rattle.own_pio.specs.declared.job.OwnJob.{OwnJob}
+use Rattle.own_pio.specs.declared.job.OwnJob.TheVariants.{Write}
 use Rattle.fill_bitmap.specs.declared.area.Area.{Area}
 use Rattle.fill_bitmap.specs.Area.{IsSuitable, blocks_of, bitmap_sectors_of, reserved_of}
 use Rattle.fill_bitmap.specs.Bits.{has_bit}
@@ -436,3 +437,19 @@ pub ended_kept : (disk : List (List ℕ)) (o : OpeningState) (sets : Sets) (cell
 ended_kept disk o sets cells opens none =
     let (all, kept) = at_end o.area o.id disk o.step sets cells opens.bitmap opens.step none in
     subst (λ set. KeepsBits o.area o.id set set cells) (sym (ap (λ s. s.stored) all)) kept
+
+header_written : (area : Area) (id : ℕ) (disk : List (List ℕ)) (step : OpeningStep) (cells : List Cell) (count : ℕ)
+    → CellsAt area id disk step cells → job_at area step ≡ Some (Write (reserved_of area) count) → HasOnlyZeros area cells
+header_written area id disk ReadHeader cells count holds next = absurd (cc)
+header_written area id disk (ReadBits k) cells count holds next = absurd (cc)
+header_written area id disk (WriteZeros k) cells count holds next =
+    let same : sector_of_bits area k ≡ reserved_of area = cc in absurd (omega arith)
+header_written area id disk FlushZeros cells count holds next = absurd (cc)
+header_written area id disk WriteHeader cells count (none, zeros) next = zeros
+header_written area id disk FlushHeader cells count holds next = absurd (cc)
+header_written area id disk Ended cells count holds next = absurd (cc)
+
+-- the header is written behind durable zeros
+pub opens_header : (disk : List (List ℕ)) (o : OpeningState) (sets : Sets) (cells : List Cell) (count : ℕ) → Opens disk o sets cells
+    → next_in_opening o ≡ Some (Write (reserved_of o.area) count) → HasOnlyZeros o.area cells
+opens_header disk o sets cells count opens next = header_written o.area o.id disk o.step cells count opens.step next

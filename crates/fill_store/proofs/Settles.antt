@@ -4,6 +4,7 @@ use Rattle.std.proofs.Math.Path.{subst}
 use Rattle.ata_taskfile.specs.Device.{Cell}
 use Rattle.plain_drive.specs.Plain.{appended, all_flushed}
 use Rattle.own_pio.specs.declared.job.OwnJob.{OwnJob}
+use Rattle.own_pio.specs.declared.job.OwnJob.TheVariants.{Write}
 use Rattle.fill_bitmap.specs.declared.area.Area.{Area}
 use Rattle.fill_bitmap.specs.Area.{blocks_of, bitmap_sectors_of, reserved_of}
 use Rattle.fill_bitmap.specs.Bits.{sector_of}
@@ -200,3 +201,16 @@ pub settles_ended : (ok : Bool) (id : ℕ) (durable : List Bool) (s after : Sett
     → Settles id (durable_after ok s sets durable) after sets_after new
 settles_ended ok id durable s after sets sets_after old new reached state bitmap settles made =
     rw (state, bitmap) (settles_after ok id durable s [] sets old new reached settles made)
+
+bits_written : (area : Area) (durable : List Bool) (step : SettleStep) (sets : Sets) (cells : List Cell) (sector count : ℕ)
+    → HoldsAt area durable step sets cells → job_at area step ≡ Some (Write sector count) → durable ≡ sets.frozen
+bits_written area durable FlushData sets cells sector count holds next = absurd (cc)
+bits_written area durable (WriteBits k) sets cells sector count (all, bits) next = all
+bits_written area durable FlushBits sets cells sector count holds next = absurd (cc)
+bits_written area durable Ended sets cells sector count holds next = absurd (cc)
+
+-- bits are written behind durable data
+pub settles_bits : (id : ℕ) (durable : List Bool) (s : SettleState) (sets : Sets) (cells : List Cell) (sector count : ℕ)
+    → Settles id durable s sets cells → next_in_settling s ≡ Some (Write sector count) → durable ≡ sets.frozen
+settles_bits id durable s sets cells sector count settles next =
+    bits_written s.area durable s.step sets cells sector count settles.step next

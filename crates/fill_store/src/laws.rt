@@ -5,6 +5,7 @@ ghost use Rattle.std.specs.Prelude.{◌≡◌, ◌<◌, ℕ, Bool, List, length,
 ghost use Rattle.ata_taskfile.specs.Device.{Cell};
 ghost use Rattle.plain_drive.specs.Plain.{current, stored, appended, all_flushed};
 ghost use Rattle.plain_drive.specs.Cut.{IsOutcome};
+ghost use Rattle.own_pio.specs.declared.job.OwnJob.TheVariants.{Write};
 ghost use Rattle.fill_bitmap.specs.declared.area.Area.{Area};
 ghost use Rattle.fill_bitmap.specs.Area.{IsSuitable, blocks_of, bitmap_sectors_of, reserved_of};
 ghost use Rattle.fill_bitmap.specs.Bitmap.{Sets, IsNested, blocks_in, empty_sets, frozen_now};
@@ -13,8 +14,8 @@ ghost use Rattle.fill_bitmap.specs.Disk.{HasHeader, header_of, sector_at, bitmap
 ghost use Rattle.fill_store.specs.Sectors.{zero_bits};
 ghost use Rattle.fill_store.specs.Cells.{Each, KeepsBits, ForgetsOld, value_at};
 ghost use Rattle.fill_store.specs.Opening.{OpeningState, opening_of, next_in_opening};
-ghost use Rattle.fill_store.specs.OpeningCells.{IsEither, Opens, MadeByOpening};
-ghost use Rattle.fill_store.specs.Settle.{SettleState, settle_of};
+ghost use Rattle.fill_store.specs.OpeningCells.{IsEither, HasOnlyZeros, Opens, MadeByOpening};
+ghost use Rattle.fill_store.specs.Settle.{SettleState, settle_of, next_in_settling};
 ghost use Rattle.fill_store.specs.SettleCells.{Settles, MadeBySettling};
 
 use plain_drive::current_values_are_an_outcome;
@@ -34,6 +35,13 @@ pub fn an_opening_stands_between_its_jobs()
         Opens disk o sets new }
     ensures forgotten { (disk : List (List ℕ)) (o : OpeningState) (sets : Sets)
         (old new : List Cell) → Opens disk o sets old → ForgetsOld old new → Opens disk o sets new }
+{}
+
+/// The header is written only once the zeros are durable: a cut then leaves nothing else of the bitmap.
+pub fn the_header_is_written_behind_durable_zeros()
+    ensures { (disk : List (List ℕ)) (o : OpeningState) (sets : Sets) (cells : List Cell)
+        (count : ℕ) → Opens disk o sets cells →
+        next_in_opening o ≡ Some (Write (reserved_of o.area) count) → HasOnlyZeros o.area cells }
 {}
 
 /// A cut in an opening leaves each sector below the reserved ones as it was at power-on, the header old or the run's,
@@ -98,6 +106,13 @@ pub fn a_settling_stands_between_its_jobs()
     ensures elsewhere { (id : ℕ) (durable : List Bool) (s : SettleState) (sets : Sets)
         (sector : ℕ) (bytes : List ℕ) (cells : List Cell) → Settles id durable s sets cells →
         sector < reserved_of s.area → Settles id durable s sets (appended sector bytes cells) }
+{}
+
+/// Bits are written only once the first flush was done, so that the data of each frozen block is durable.
+pub fn bits_are_written_behind_durable_data()
+    ensures { (id : ℕ) (durable : List Bool) (s : SettleState) (sets : Sets) (cells : List Cell)
+        (sector count : ℕ) → Settles id durable s sets cells →
+        next_in_settling s ≡ Some (Write sector count) → durable ≡ sets.frozen }
 {}
 
 /// A cut in a settling leaves the header, each stored block stored, and no other block stored than those whose data is
