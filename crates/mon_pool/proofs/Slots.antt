@@ -1,0 +1,61 @@
+-- Slots of a block, and slots that are free or out.
+use Rattle.std.proofs.Common.{◌≡◌, ◌≢◌, ℕ, ◌+◌, ◌*◌, ◌<◌, ◌≤◌, Bool, true, false, not, List, [], ◌∷◌, length, get_or, slice_get, count_by, Option, Some, None, arith, cond, refl, sym, ap, ◌∙◌}
+use Rattle.std.specs.Prelude.{IsNone, ◌↔◌}
+use Rattle.std.specs.List.{position, position_from}
+use Rattle.std.proofs.lemmas.Bool.{true≢false}
+use Rattle.std.proofs.lemmas.Iterator.Adapters.{position_from-zero}
+use Rattle.std.proofs.lemmas.List.Quantifiers.{position-Some}
+use Rattle.std.proofs.lemmas.List.Sums.{sum_by-cons, sum_by-take-le, count_by_more_yes}
+use Rattle.std.proofs.lemmas.Option.{slice_get_within, get_or_from_slice_get}
+use Rattle.std.proofs.Math.Nat.{mul-le-mul_right}
+
+-- a leased slot lies within the block
+pub slot_within : (slot room : ℕ) (free : List Bool) (block : List ℕ) → slice_get free slot ≡ Some false
+    → length block ≡ length free * room → slot * room + room ≤ length block
+slot_within slot room free block out whole =
+    let within : slot < length free = slice_get_within free slot false out in
+    omega (arith, whole, mul-le-mul_right room within)
+
+free_or_out : (x : Bool) → cond x 1 0 + cond (not x) 1 0 ≡ 1
+free_or_out true = refl
+free_or_out false = refl
+
+-- each slot is free or out
+pub free_and_out : (free : List Bool) → count_by (λ x. x) free + count_by not free ≡ length free
+free_and_out [] = refl
+free_and_out (x ∷ free) = omega (
+  arith,
+  sum_by-cons (λ y. cond y 1 0) x free,
+  sum_by-cons (λ y. cond (not y) 1 0) x free,
+  free_or_out x,
+  free_and_out free,
+)
+
+none_from : (i : ℕ) (free : List Bool) → position_from (λ x. x) i free ≡ None → count_by (λ x. x) free ≡ 0
+none_from i [] none = refl
+none_from i (true ∷ free) none = cc
+none_from i (false ∷ free) none = omega (arith, sum_by-cons (λ y. cond y 1 0) false free, none_from (i + 1) free none)
+
+-- without a first free slot none is free
+none_free : (free : List Bool) → position (λ x. x) free ≡ None → count_by (λ x. x) free ≡ 0
+none_free free none = none_from 0 free (sym (position_from-zero (λ x. x) free) ∙ none)
+
+-- with one some slot is free
+some_free : (free : List Bool) (slot : ℕ) → position (λ x. x) free ≡ Some slot → count_by (λ x. x) free ≢ 0
+some_free free slot first zero =
+    let at = position-Some (λ x. x) free slot false first in
+    let more = count_by_more_yes (λ x. x) free slot false at.0 at.1 in
+    let within = sum_by-take-le (λ y. cond y 1 0) free (slot + 1) in
+    omega (arith, more, within)
+
+-- there is a first free slot exactly where one is free
+pub none_where : (free : List Bool) (first : Option ℕ) → position (λ x. x) free ≡ first → IsNone first ↔ (count_by (λ x. x) free ≡ 0)
+none_where free None is = (λ none. none_free free is, λ zero. refl)
+none_where free (Some slot) is = (λ none. absurd (true≢false none), λ zero. absurd (some_free free slot is zero))
+
+-- the first free slot isn't one that is out
+pub new_apart : (free : List Bool) (slot other : ℕ) → position (λ x. x) free ≡ Some slot → slice_get free other ≡ Some false → other ≢ slot
+new_apart free slot other first out same =
+    let at = position-Some (λ x. x) free slot false first in
+    let not_free : get_or free other false ≡ false = get_or_from_slice_get free other false false out in
+    true≢false (sym at.1 ∙ ap (λ n. get_or free n false) (sym same) ∙ not_free)
