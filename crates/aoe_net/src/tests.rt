@@ -1,0 +1,62 @@
+//! Lists of frames of one byte each, worked out by hand from the rules.
+
+use crate::{Net, Way};
+use aoe_frame::Frame;
+use std::test::Fail;
+
+// Which of three frames is taken, whether it is kept, and what is left, the oldest first.
+#[test]
+fn a_frame_is_picked(rt: HostRuntime) -> Result<(), Fail> {
+    let cases = [
+        (0, false, Some(7), [Some(8), Some(9), None]),
+        (1, false, Some(8), [Some(7), Some(9), None]),
+        (2, false, Some(9), [Some(7), Some(8), None]),
+        (3, false, None, [Some(7), Some(8), Some(9)]),
+        (1, true, Some(8), [Some(7), Some(8), Some(9)]),
+    ];
+    for (k, keep, picked, left) in cases {
+        let mut net = Net::new(rt.alloc())?;
+        for byte in [7, 8, 9] {
+            if let Some(frame) = Frame::from_slice(&[byte]) {
+                net.send(Way::ToServer, frame);
+            }
+        }
+        assert_eq!(rt;
+            net.pick(Way::ToServer, k, keep),
+            frame(picked),
+            "frame {k}"
+        );
+        assert_eq!(rt; net.pick(Way::ToClient, 0, false), None, "frame {k}");
+        for next in left {
+            assert_eq!(rt;
+                net.pick(Way::ToServer, 0, false),
+                frame(next),
+                "after frame {k}"
+            );
+        }
+    }
+    Ok(())
+}
+
+// The 65th frame puts the first out.
+#[test]
+fn a_full_list_loses_its_oldest(rt: HostRuntime) -> Result<(), Fail> {
+    let mut net = Net::new(rt.alloc())?;
+    for byte in 0..64u8 {
+        if let Some(frame) = Frame::from_slice(&[byte]) {
+            assert_eq!(rt; net.send(Way::ToClient, frame), None, "frame {byte}");
+        }
+    }
+    if let Some(last) = Frame::from_slice(&[64]) {
+        assert_eq!(rt; net.send(Way::ToClient, last), frame(Some(0)));
+    }
+    assert!(rt; !net.lose(Way::ToClient, 64));
+    assert!(rt; net.lose(Way::ToClient, 63));
+    assert_eq!(rt; net.pick(Way::ToClient, 62, true), frame(Some(63)));
+    assert_eq!(rt; net.pick(Way::ToClient, 0, true), frame(Some(1)));
+    Ok(())
+}
+
+fn frame(byte: Option<u8>) -> Option<Frame> {
+    Frame::from_slice(&[byte?])
+}
