@@ -1,6 +1,6 @@
 //! The pool and its calls.
 
-ghost use Rattle.std.specs.Prelude.{◌≡◌, ◌+◌, ◌↔◌, IfOk, IsNone, option_map};
+ghost use Rattle.std.specs.Prelude.{◌≡◌, ◌+◌, ◌↔◌, length, IfOk, IsNone, option_map};
 ghost use Rattle.std.specs.Borrow.{sem};
 ghost use Rattle.mon_pool.specs.Region.{IsOf, IsWhole, all_free, bytes_of, first_free, free_of, given, lease_of, leased, out_of, slots_of};
 ghost use Rattle.mon_pool.specs.Lending.{LendsBytes};
@@ -66,7 +66,8 @@ impl Pool {
     /// The lease's bytes.
     pub fn bytes(&self, lease: &Lease) -> &[u8]
         requires { IsOf lease.now self.now }
-        ensures { result.now ≡ bytes_of lease.now self.now }
+        ensures value { result.now ≡ bytes_of lease.now self.now }
+        ensures long { length result.now ≡ self.now.room }
     {
         let _within = self.block.len();
         let at = lease.slot * self.room;
@@ -78,6 +79,7 @@ impl Pool {
         requires { IsOf lease.old self.old }
         ensures* writes_back { sem 𝓛 (LendsBytes self.entry lease.old result) }
         ensures value { result.now ≡ bytes_of lease.old self.old }
+        ensures long { length result.now ≡ self.old.room }
         ensures lease { lease.new ≡ lease.old }
     {
         let at = lease.slot * self.room;
