@@ -1,1 +1,3 @@
 pub mod DueTags
+pub mod Replies
+pub mod Hearing

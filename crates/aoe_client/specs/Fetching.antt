@@ -1,5 +1,5 @@
 -- What one slot of the client asks for, and what each event does to it.
-use Rattle.std.specs.Prelude.{ℕ, ◌≡◌, ◌+◌, ◌-◌, ◌*◌, ◌==◌, nat_lt, Bool, true, false, List, [], ◌∷◌, ◌++◌, length, take, drop, map, replicate, slice_get, slice_set, Option, Some, None, if◌then◌else◌}
+use Rattle.std.specs.Prelude.{ℕ, ◌+◌, ◌-◌, ◌*◌, ◌==◌, nat_lt, Bool, true, false, List, [], ◌∷◌, ◌++◌, length, take, drop, map, replicate, slice_get, slice_set, Option, Some, None, if◌then◌else◌}
 use Rattle.mon_pool.specs.Region.{Held, Region, bytes_of, with_bytes}
 use Rattle.aoe_client.specs.declared.tags.TagState.{TagState}
 use Rattle.aoe_client.specs.declared.tags.TagState.TheVariants.{Due, Sent, Answered}
@@ -25,6 +25,12 @@ abbrev pub is_due : TagState → Bool
 is_due Due = true
 is_due Sent = false
 is_due Answered = false
+
+-- whether a tag is answered
+abbrev pub is_answered : TagState → Bool
+is_answered Due = false
+is_answered Sent = false
+is_answered Answered = true
 
 -- the due ones of these tags, whose first is this one, in rising order
 abbrev pub due_from : ℕ → List TagState → List ℕ

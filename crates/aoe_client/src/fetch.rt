@@ -1,8 +1,9 @@
 //! One block that is asked for.
 
-ghost use Rattle.std.specs.Prelude.{◌≡◌, ◌+◌, ◌*◌, ◌<◌, ◌≤◌, ◌^◌, ◌↔◌, All, ◌-◌, IfSome, IsTrue, is_some, length, slice_get, if◌then◌else◌};
+ghost use Rattle.std.specs.Prelude.{◌≡◌, ◌+◌, ◌*◌, ◌<◌, ◌≤◌, ◌^◌, ◌-◌, IfSome, is_some, length, slice_get, if◌then◌else◌};
+ghost use Rattle.std.specs.List.{list_all};
 ghost use Rattle.mon_pool.specs.Region.{IsOf};
-ghost use Rattle.aoe_client.specs.Fetching.{Fetching, asked_for, due_from, first_tag, is_open, sent, state_of, ticked, with_part, with_sectors, with_tag};
+ghost use Rattle.aoe_client.specs.Fetching.{Fetching, asked_for, due_from, first_tag, is_answered, is_open, sent, state_of, ticked, with_part, with_sectors, with_tag};
 
 use crate::tags::{PART_BYTES, RESEND_AGE, TagState, all_answered, count_due, make_due, nth_due};
 use arrayvec::ArrayVec;
@@ -113,7 +114,7 @@ impl Fetch {
     }
 
     pub(crate) fn is_answered(&self) -> bool
-        ensures { IsTrue result ↔ All (λ state. state ≡ TagState.Answered) self.now.tags }
+        ensures { result ≡ list_all is_answered self.now.tags }
     {
         all_answered(self.tags.as_slice())
     }

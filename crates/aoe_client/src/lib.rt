@@ -1,8 +1,17 @@
 //! The client: it asks the image server for blocks, and takes the replies into buffers of the monitor's pool.
 //!
-//! Start with `Client`. `specs/Asking.antt` says what each call does, `specs/Fetching.antt` what one slot holds.
+//! Start with `Client`. `specs/Asking.antt` says what each call does, `specs/Fetching.antt` what one slot holds,
+//! `specs/Messages.antt` which frame is a request and which a reply.
 
 #![tactic(auto)]
 
+mod client;
 mod fetch;
+mod messages;
+mod slot;
 mod tags;
+
+pub use client::{Client, Full, Heard, Slot};
+pub use fetch::MOST_TAGS;
+pub use messages::{CLIENT, PART_SECTORS, READ_EXTENDED, READY, SERVER, SHELF, TARGET};
+pub use tags::{PART_BYTES, RESEND_AGE, TagState};

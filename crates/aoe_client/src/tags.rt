@@ -1,7 +1,8 @@
 //! The tags of a block, and where each of them stands.
 
-ghost use Rattle.std.specs.Prelude.{◌≡◌, ◌+◌, ◌<◌, ◌≤◌, ◌^◌, ◌↔◌, All, IfSome, IsTrue, count_by, length, map, slice_get};
-ghost use Rattle.aoe_client.specs.Fetching.{due_again, due_from, is_due};
+ghost use Rattle.std.specs.Prelude.{◌≡◌, ◌+◌, ◌<◌, ◌≤◌, ◌^◌, IfSome, count_by, length, map, slice_get};
+ghost use Rattle.std.specs.List.{list_all};
+ghost use Rattle.aoe_client.specs.Fetching.{due_again, due_from, is_answered, is_due};
 
 /// The bytes of a tag: two sectors (own).
 pub const PART_BYTES: usize = 1024;
@@ -69,7 +70,7 @@ impl TagState {
 }
 
 pub(crate) fn all_answered(tags: &[TagState]) -> bool
-    ensures { IsTrue result ↔ All (λ state. state ≡ TagState.Answered) tags.now }
+    ensures { result ≡ list_all is_answered tags.now }
 {
     tags.iter().all(|state| matches!(state, TagState::Answered))
 }

@@ -1,5 +1,5 @@
 -- Slots of a block, and slots that are free or out.
-use Rattle.std.proofs.Common.{◌≡◌, ◌≢◌, ℕ, ◌+◌, ◌*◌, ◌<◌, ◌≤◌, Bool, true, false, not, List, [], ◌∷◌, length, get_or, slice_get, count_by, Option, Some, None, arith, cond, refl, sym, ap, ◌∙◌}
+use Rattle.std.proofs.Common.{slice_set, suc, zero, ◌≡◌, ◌≢◌, ℕ, ◌+◌, ◌*◌, ◌<◌, ◌≤◌, Bool, true, false, not, List, [], ◌∷◌, length, get_or, slice_get, count_by, Option, Some, None, arith, cond, refl, sym, ap, ◌∙◌}
 use Rattle.std.specs.Prelude.{IsNone, ◌↔◌}
 use Rattle.std.specs.List.{position, position_from}
 use Rattle.std.proofs.lemmas.Bool.{true≢false}
@@ -8,6 +8,7 @@ use Rattle.std.proofs.lemmas.List.Quantifiers.{position-Some}
 use Rattle.std.proofs.lemmas.List.Sums.{sum_by-cons, sum_by-take-le, count_by_more_yes}
 use Rattle.std.proofs.lemmas.Option.{slice_get_within, get_or_from_slice_get}
 use Rattle.std.proofs.Math.Nat.{mul-le-mul_right}
+use Rattle.mon_pool.specs.Region.{Held, Region, IsOf, AreOf, given, with_bytes}
 
 -- a leased slot lies within the block
 pub slot_within : (slot room : ℕ) (free : List Bool) (block : List ℕ) → slice_get free slot ≡ Some false
@@ -42,7 +43,7 @@ none_free free none = none_from 0 free (sym (position_from-zero (λ x. x) free) 
 
 -- with one some slot is free
 some_free : (free : List Bool) (slot : ℕ) → position (λ x. x) free ≡ Some slot → count_by (λ x. x) free ≢ 0
-some_free free slot first zero =
+some_free free slot first no_slot =
     let at = position-Some (λ x. x) free slot false first in
     let more = count_by_more_yes (λ x. x) free slot false at.0 at.1 in
     let within = sum_by-take-le (λ y. cond y 1 0) free (slot + 1) in
@@ -50,8 +51,8 @@ some_free free slot first zero =
 
 -- there is a first free slot exactly where one is free
 pub none_where : (free : List Bool) (first : Option ℕ) → position (λ x. x) free ≡ first → IsNone first ↔ (count_by (λ x. x) free ≡ 0)
-none_where free None is = (λ none. none_free free is, λ zero. refl)
-none_where free (Some slot) is = (λ none. absurd (true≢false none), λ zero. absurd (some_free free slot is zero))
+none_where free None is = (λ none. none_free free is, λ _. refl)
+none_where free (Some slot) is = (λ none. absurd (true≢false none), λ no_slot. absurd (some_free free slot is no_slot))
 
 -- the first free slot isn't one that is out
 pub new_apart : (free : List Bool) (slot other : ℕ) → position (λ x. x) free ≡ Some slot → slice_get free other ≡ Some false → other ≢ slot
@@ -59,3 +60,21 @@ new_apart free slot other first out same =
     let at = position-Some (λ x. x) free slot false first in
     let not_free : get_or free other false ≡ false = get_or_from_slice_get free other false false out in
     true≢false (sym at.1 ∙ ap (λ n. get_or free n false) (sym same) ∙ not_free)
+
+-- a slot that is out once another was freed was out before
+out_before : (free : List Bool) (slot other : ℕ) → slice_get (slice_set free slot true) other ≡ Some false → slice_get free other ≡ Some false
+out_before [] slot other out = out
+out_before (x ∷ free) zero zero out = cc
+out_before (x ∷ free) zero (suc other) out = out
+out_before (x ∷ free) (suc slot) zero out = out
+out_before (x ∷ free) (suc slot) (suc other) out = out_before free slot other out
+
+-- so a lease that is of the pool once another was given back was before
+pub of_before : (pool : Region) (lease other : Held) → IsOf other (given lease pool) → IsOf other pool
+of_before pool lease other of = record { block = of.block; out = out_before pool.free lease.slot other.slot of.out }
+
+-- what is written through a lease leaves every lease of the pool
+pub are_of_written : (leases : List Held) (pool : Region) (lease : Held) (bytes : List ℕ) → AreOf leases pool → AreOf leases (with_bytes lease pool bytes)
+are_of_written [] pool lease bytes are = tt
+are_of_written (one ∷ leases) pool lease bytes are =
+    (record { block = are.0.block; out = are.0.out }, are_of_written leases (given one pool) lease bytes are.1)

@@ -1,7 +1,7 @@
 //! Laws of leases: what the calls mean for those that are held at once.
 
 ghost use Rattle.std.specs.Prelude.{◌≡◌, ◌≢◌, ℕ, List, length, Some};
-ghost use Rattle.mon_pool.specs.Region.{Held, IsOf, IsWhole, Region, bytes_of, first_free, given, lease_of, leased, with_bytes};
+ghost use Rattle.mon_pool.specs.Region.{AreOf, Held, IsOf, IsWhole, Region, bytes_of, first_free, given, lease_of, leased, with_bytes};
 
 use crate::Pool;
 
@@ -36,4 +36,6 @@ pub fn bytes_are_the_holders()
     ensures others { (pool : Region) (lease other : Held) (bytes : List ℕ) → IsWhole pool →
         IsOf lease pool → length bytes ≡ pool.room → other.slot ≢ lease.slot →
         bytes_of other (with_bytes lease pool bytes) ≡ bytes_of other pool }
+    ensures leases { (leases : List Held) (pool : Region) (lease : Held) (bytes : List ℕ) →
+        AreOf leases pool → AreOf leases (with_bytes lease pool bytes) }
 {}

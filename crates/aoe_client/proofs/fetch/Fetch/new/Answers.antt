@@ -2,7 +2,6 @@ use Rattle.std.proofs.Common.{take, ap, ◌∙◌}
 use Rattle.std.proofs.lemmas.List.{take-replicate}
 use Rattle.aoe_client.specs.declared.fetch.TheConstants.{MOST_TAGS}
 use Rattle.aoe_client.specs.declared.tags.TagState.TheVariants.{Due}
-use Rattle.aoe_client.specs.Fetching.{Fetching}
 use Rattle.aoe_client.proofs.fetch.Fetch.new.Goals as goal
 
 pub returns : goal.returns

@@ -1,0 +1,71 @@
+-- The request for a tag, and what a frame has to say to be taken as its reply.
+use Rattle.std.specs.Prelude.{ℕ, ◌≡◌, ◌≢◌, ◌≤◌, ◌*◌, bit_and, List, [], length, take, drop}
+use Rattle.aoe_frame.specs.declared.message.TheConstants.{ATA, EXTENDED, FAILED, REPLY, VERSION}
+use Rattle.aoe_frame.specs.declared.message.Header.{Header}
+use Rattle.aoe_frame.specs.declared.message.AtaPart.{AtaPart}
+use Rattle.aoe_frame.specs.declared.message.Argument.{Argument}
+use Rattle.aoe_frame.specs.declared.message.Argument.TheVariants.{Ata, Config, Other}
+use Rattle.aoe_frame.specs.declared.message.Aoe.{Aoe}
+use Rattle.aoe_frame.specs.Layout.{frame_of}
+use Rattle.aoe_frame.specs.Reading.{IsMessage}
+use Rattle.aoe_client.specs.declared.tags.TheConstants.{PART_BYTES}
+use Rattle.aoe_client.specs.declared.messages.TheConstants.{CLIENT, SERVER, SHELF, TARGET, PART_SECTORS, READ_EXTENDED, READY}
+
+-- the request for a tag: its two sectors, by an extended read (AoE r11, Issue ATA Command; the addresses are own)
+abbrev pub request_for : ℕ → Aoe
+request_for tag = record {
+  header = record {
+    dest = SERVER;
+    source = CLIENT;
+    version = VERSION;
+    flags = 0;
+    error = 0;
+    major = SHELF;
+    minor = TARGET;
+    command = ATA;
+    tag = tag;
+  };
+  argument = Ata (record { flags = EXTENDED; feature = 0; count = PART_SECTORS; command = READ_EXTENDED; lba = 2 * tag; body = [] });
+}
+
+-- the frame of that request
+abbrev pub request_frame : ℕ → List ℕ
+request_frame tag = frame_of (request_for tag)
+
+-- a header is of a reply that didn't fail, from the server to the client, to an ATA command
+pub record IsReply (h : Header) : Type 0 where
+  pub dest : h.dest ≡ CLIENT
+  pub source : h.source ≡ SERVER
+  pub major : h.major ≡ SHELF
+  pub minor : h.minor ≡ TARGET
+  pub reply : bit_and h.flags REPLY ≢ 0
+  pub well : bit_and h.flags FAILED ≡ 0
+  pub command : h.command ≡ ATA
+
+-- an ATA argument answers the request for a tag: its registers are that request's, its status is that of a command that
+-- ended well, and its body has the two sectors
+pub record IsRead (a : AtaPart) (tag : ℕ) : Type 0 where
+  pub flags : a.flags ≡ EXTENDED
+  pub count : a.count ≡ PART_SECTORS
+  pub status : a.command ≡ READY
+  pub lba : a.lba ≡ 2 * tag
+  pub body : PART_BYTES ≤ length a.body
+
+abbrev pub IsReadOf : Argument → ℕ → Type 0
+IsReadOf (Ata a) tag = IsRead a tag
+IsReadOf (Config c) tag = ⊥
+IsReadOf Other tag = ⊥
+
+-- a message answers a tag
+pub record IsAnswer (m : Aoe) (tag : ℕ) : Type 0 where
+  pub header : IsReply m.header
+  pub same : m.header.tag ≡ tag
+  pub argument : IsReadOf m.argument tag
+
+-- a frame answers a tag: it says a message that does
+abbrev pub Answers : List ℕ → ℕ → Type 0
+Answers frame tag = (m : Aoe) × (IsMessage frame m × IsAnswer m tag)
+
+-- the two sectors of a frame that answers a tag: the first bytes of its body
+abbrev pub sectors_in : List ℕ → List ℕ
+sectors_in frame = take PART_BYTES (drop 36 frame)

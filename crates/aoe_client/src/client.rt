@@ -1,0 +1,201 @@
+//! The client and its calls.
+
+ghost use Rattle.std.specs.Prelude.{◌≡◌, ◌+◌, ◌*◌, ◌<◌, ◌≤◌, ◌^◌, ◌↔◌, All, ℕ, IfErr, IfSome, IsErr, IsSome, IsTrue, OnErr, OnOk, None, Some, is_some, length, true, option_map, slice_get, if◌then◌else◌};
+ghost use Rattle.mon_pool.specs.Region.{AreOf, all_given};
+ghost use Rattle.aoe_client.specs.Asking.{Asking, IsBlockSize, both_ticked, buffers_heard, done_in, due_tags, first_due, heard, in_slot, is_awaited, leases_of, next_sent, nothing_asked, tags_in, with_slot};
+ghost use Rattle.aoe_client.specs.Fetching.{asked_for};
+ghost use Rattle.aoe_client.specs.Messages.{Answers, request_frame, sectors_in};
+
+use crate::fetch::Fetch;
+use crate::messages::{answered_by, request};
+use crate::slot::{due_in, end_slot, fill, hear_in, send_in, take_done, tick_slot};
+use crate::tags::PART_BYTES;
+use aoe_frame::Frame;
+use mon_pool::{Lease, Pool};
+use std::marker::Model;
+
+/// The two things that a block is asked for.
+#[derive(Clone, Copy, Debug, PartialEq, Eq)]
+pub enum Slot {
+    /// A command of the guest waits for the block.
+    Demand,
+    /// The block is copied to the disk.
+    Background,
+}
+
+/// The slot is in use.
+#[derive(Clone, Copy, Debug, PartialEq, Eq)]
+pub struct Full;
+
+/// What became of a frame.
+#[derive(Clone, Copy, Debug, PartialEq, Eq)]
+pub enum Heard {
+    /// It was taken as the reply for this tag.
+    Took(u32),
+    /// It changed nothing.
+    Ignored,
+}
+
+/// What asks the image server for blocks, one in each slot, and takes the replies into the slots' buffers.
+///
+/// A contract sees what each slot asks for (`Asking` of `specs/Asking.antt`). A client holds leases, and so it is ended
+/// by `end`, and neither copied nor let go.
+pub struct Client {
+    block: u32,
+    demand: Option<Fetch>,
+    background: Option<Fetch>,
+}
+
+impl Model for Client {
+    ghost use Rattle.aoe_client.specs.Asking.{Asking, HasTags, IsBlockSize};
+
+    ghost Value = { Asking };
+
+    ghost view = { λ c. record { block = c.block; demand = c.demand; background = c.background } };
+
+    ghost invariant = { λ c. IsBlockSize c.block × HasTags c.block c.demand × HasTags c.block c.background };
+}
+
+impl Client {
+    /// A client for blocks of so many sectors, which asks for nothing.
+    pub fn new(block: u32) -> Client
+        requires { IsBlockSize block }
+        ensures { result ≡ nothing_asked block }
+    {
+        Client {
+            block,
+            demand: None,
+            background: None,
+        }
+    }
+
+    /// Asks for a block in a slot, into the buffer of this lease: all its tags are due. The lease is handed back exactly
+    /// where the slot is in use.
+    pub fn ask(&mut self, slot: Slot, block: u32, lease: Lease) -> Result<(), (Lease, Full)>
+        requires { block * self.old.block + self.old.block ≤ 2 ^ 32 }
+        ensures full { IsErr result ↔ IsSome (in_slot slot self.old) }
+        ensures asked { OnOk result (self.new
+            ≡ with_slot slot (Some (asked_for (tags_in self.old.block) block lease)) self.old) }
+        ensures back { IfErr result (λ refused. refused.0 ≡ lease) }
+        ensures unchanged { OnErr result (self.new ≡ self.old) }
+    {
+        if self.asked(slot).is_some() {
+            return Err((lease, Full));
+        }
+        let fetch = Fetch::new(block, self.block as usize / 2, lease);
+        match slot {
+            Slot::Demand => fill(&mut self.demand, fetch),
+            Slot::Background => fill(&mut self.background, fetch),
+        }
+        Ok(())
+    }
+
+    /// The number of the slot's block; None exactly where the slot is free.
+    pub fn asked(&self, slot: Slot) -> Option<u32>
+        ensures { result ≡ option_map (λ fetch. fetch.block) (in_slot slot self.now) }
+    {
+        match slot {
+            Slot::Demand => Some(self.demand.as_ref()?.block()),
+            Slot::Background => Some(self.background.as_ref()?.block()),
+        }
+    }
+
+    /// The k-th due tag, from 0, in the order in which they are sent; None exactly where at most `k` are due.
+    pub fn due(&self, k: u32) -> Option<u32>
+        ensures { result ≡ slice_get (due_tags self.now) k }
+    {
+        due_in(&self.demand, &self.background, k as usize)
+    }
+
+    /// The request of the first due tag, which is unanswered then; None exactly where no tag is due.
+    pub fn next_send(&mut self) -> Option<Frame>
+        ensures request { result ≡ option_map request_frame (slice_get (due_tags self.old) 0) }
+        ensures after { self.new ≡ next_sent (first_due self.old.demand) self.old }
+    {
+        let tag = match send_in(&mut self.demand) {
+            Some(tag) => tag,
+            None => send_in(&mut self.background)?,
+        };
+        Some(request(tag))
+    }
+
+    /// A tick: each slot is older by one, and at the fourth its unanswered tags are due again.
+    pub fn tick(&mut self)
+        ensures { self.new ≡ both_ticked self.old }
+    {
+        tick_slot(&mut self.demand);
+        tick_slot(&mut self.background);
+    }
+
+    /// Hears a frame. It is taken for a tag exactly where it answers the tag, and the tag is unanswered or due: its two
+    /// sectors are then in each buffer that awaited them.
+    pub fn frame_in(&mut self, pool: &mut Pool, frame: &Frame) -> Heard
+        requires of_pool { AreOf (leases_of self.old) pool.old }
+        requires room { 512 * self.old.block ≤ pool.old.room }
+        ensures took { (tag : ℕ) → (result ≡ Heard.Took tag)
+            ↔ (Answers frame.now tag × (is_awaited tag self.old ≡ true)) }
+        ensures after { self.new ≡ heard result self.old }
+        ensures buffers { pool.new ≡ buffers_heard result (sectors_in frame.now) self.old pool.old }
+    {
+        let Some(tag) = answered_by(frame) else {
+            return Heard::Ignored;
+        };
+        let sectors = &frame.as_slice()[36..36 + PART_BYTES];
+        if self.hear(pool, tag, sectors) {
+            Heard::Took(tag)
+        } else {
+            Heard::Ignored
+        }
+    }
+
+    /// Hands over a block that was asked for, by its number and the lease of its buffer, and frees the slot; None exactly
+    /// where the slot is free or a tag of it isn't answered.
+    pub fn done(&mut self, slot: Slot) -> Option<(u32, Lease)>
+        ensures fetched { result ≡ done_in (in_slot slot self.old) }
+        ensures after { self.new ≡ (if is_some result then with_slot slot None self.old else self.old) }
+    {
+        match slot {
+            Slot::Demand => take_done(&mut self.demand),
+            Slot::Background => take_done(&mut self.background),
+        }
+    }
+
+    /// Gives up what the slot asks for, and hands its lease back; None exactly where the slot is free.
+    pub fn cancel(&mut self, slot: Slot) -> Option<Lease>
+        ensures lease { result ≡ option_map (λ fetch. fetch.lease) (in_slot slot self.old) }
+        ensures after { self.new ≡ with_slot slot None self.old }
+    {
+        match slot {
+            Slot::Demand => Some(self.demand.take()?.end()),
+            Slot::Background => Some(self.background.take()?.end()),
+        }
+    }
+
+    /// Gives every lease that the client holds back to its pool.
+    pub fn end(self, pool: &mut Pool)
+        requires { AreOf (leases_of self) pool.old }
+        ensures { pool.new ≡ all_given (leases_of self) pool.old }
+    {
+        let Client {
+            block: _,
+            demand,
+            background,
+        } = self;
+        end_slot(demand, pool);
+        end_slot(background, pool);
+    }
+
+    // The two sectors of a tag go into each buffer that awaits them; false where none does.
+    fn hear(&mut self, pool: &mut Pool, tag: u32, sectors: &[u8]) -> bool
+        requires of_pool { AreOf (leases_of self.old) pool.old }
+        requires room { 512 * self.old.block ≤ pool.old.room }
+        requires sectors { length sectors.now ≡ PART_BYTES }
+        ensures awaited { result ≡ is_awaited tag self.old }
+        ensures after { self.new ≡ heard (Heard.Took tag) self.old }
+        ensures buffers { pool.new ≡ buffers_heard (Heard.Took tag) sectors.now self.old pool.old }
+    {
+        let demand = hear_in(&mut self.demand, pool, tag, sectors);
+        let background = hear_in(&mut self.background, pool, tag, sectors);
+        demand || background
+    }
+}

@@ -1,0 +1,105 @@
+//! The request for a tag, and the reply to it.
+
+ghost use Rattle.std.specs.Prelude.{◌≡◌, ◌≢◌, ◌≤◌, ◌+◌, ◌*◌, ◌↔◌, ℕ, IsTrue, Some, length};
+ghost use Rattle.aoe_client.specs.Messages.{Answers, IsAnswer, IsRead, IsReply, request_frame};
+
+use crate::tags::PART_BYTES;
+use aoe_frame::{
+    ATA, Aoe, Argument, AtaPart, Bytes, EXTENDED, FAILED, Frame, Header, REPLY, VERSION, parse,
+    write,
+};
+
+/// The client's address (own).
+pub const CLIENT: [u8; 6] = [2, 0, 0, 0, 0, 1];
+
+/// The server's address (own).
+pub const SERVER: [u8; 6] = [2, 0, 0, 0, 0, 2];
+
+/// The server's shelf (own).
+pub const SHELF: u16 = 1;
+
+/// The server's slot in its shelf (own).
+pub const TARGET: u8 = 1;
+
+/// The sectors of a tag (own).
+pub const PART_SECTORS: u8 = 2;
+
+/// READ SECTOR(S) EXT (ATA/ATAPI-6).
+pub const READ_EXTENDED: u8 = 0x24;
+
+/// Status after a command that ended well: DRDY and the bit beside it (own).
+pub const READY: u8 = 0x50;
+
+// The request for a tag.
+pub(crate) fn request(tag: u32) -> Frame
+    ensures { result ≡ request_frame tag }
+{
+    write(&Aoe {
+        header: Header {
+            dest: SERVER,
+            source: CLIENT,
+            version: VERSION,
+            flags: 0,
+            error: 0,
+            major: SHELF,
+            minor: TARGET,
+            command: ATA,
+            tag,
+        },
+        argument: Argument::Ata(AtaPart {
+            flags: EXTENDED,
+            feature: 0,
+            count: PART_SECTORS,
+            command: READ_EXTENDED,
+            lba: 2 * u64::from(tag),
+            body: Bytes::new(),
+        }),
+    })
+}
+
+// The tag that a frame answers.
+pub(crate) fn answered_by(frame: &Frame) -> Option<u32>
+    ensures tag { (tag : ℕ) → (result ≡ Some tag) ↔ Answers frame.now tag }
+    ensures long { (tag : ℕ) → result ≡ Some tag → 36 + PART_BYTES ≤ length frame.now }
+{
+    match parse(frame) {
+        Ok(message) => tag_of(&message),
+        Err(_) => None,
+    }
+}
+
+fn tag_of(message: &Aoe) -> Option<u32>
+    ensures { (tag : ℕ) → (result ≡ Some tag) ↔ IsAnswer message.now tag }
+{
+    let header = message.header;
+    let Argument::Ata(part) = &message.argument else {
+        return None;
+    };
+    if is_reply(&header) && is_read(part, header.tag) {
+        Some(header.tag)
+    } else {
+        None
+    }
+}
+
+fn is_reply(header: &Header) -> bool
+    ensures { IsTrue result ↔ IsReply header.now }
+{
+    header.dest == CLIENT
+        && header.source == SERVER
+        && header.major == SHELF
+        && header.minor == TARGET
+        && header.flags & REPLY != 0
+        && header.flags & FAILED == 0
+        && header.command == ATA
+}
+
+fn is_read(part: &AtaPart, tag: u32) -> bool
+    ensures { IsTrue result ↔ IsRead part.now tag }
+{
+    part.flags == EXTENDED
+        && part.count == PART_SECTORS
+        && part.command == READY
+        && part.lba == 2 * u64::from(tag)
+        && part.body.as_slice().len() >= PART_BYTES
+}
