@@ -58,22 +58,54 @@ module _ (at : ℕ) (bytes block : List ℕ) (fits : at + length bytes ≤ lengt
       ∙ drop-drop (n + j) at block
       ∙ ap (λ k. drop k block) (sym sum)
 
+-- a block of parts of one length, one of which is written
+module _ (n k : ℕ) (bytes block : List ℕ) (long : length bytes ≡ n) (fits : k * n + n ≤ length block) where
+  -- its length stays
+  pub length_written : length (written_at (k * n) bytes block) ≡ length block
+  length_written = ap length (written_is (k * n) bytes block (omega (arith, long, fits))) ∙ omega (
+    arith,
+    long,
+    fits,
+    length-append (take (k * n) block) (bytes ++ drop (length bytes) (drop (k * n) block)),
+    length-append bytes (drop (length bytes) (drop (k * n) block)),
+    length-take (k * n) block,
+    length-drop (length bytes) (drop (k * n) block),
+    length-drop (k * n) block,
+  )
+
+  -- the part is what was written
+  pub part_written : take n (drop (k * n) (written_at (k * n) bytes block)) ≡ bytes
+  part_written =
+      ap (λ m. take m (drop (k * n) (written_at (k * n) bytes block))) (sym long)
+      ∙ written_there (k * n) bytes block (omega (arith, long, fits))
+
+  -- and each other part is as it was
+  pub part_kept : (i : ℕ) → i ≢ k → take n (drop (i * n) (written_at (k * n) bytes block)) ≡ take n (drop (i * n) block)
+  part_kept i apart = elim (cases_lt i k) [
+    | inl below ↦ written_below (k * n) bytes block (omega (arith, long, fits)) (i * n) n (omega (arith, mul-le-mul_right n below))
+    | inr above ↦
+        let next : suc k ≤ i = omega arith in
+        ap (take n) (written_above (k * n) bytes block (omega (arith, long, fits)) (i * n) (omega (arith, long, mul-le-mul_right n next)))
+  ]
+
 module _ (pool : Region) (lease : Held) (bytes : List ℕ) (whole : IsWhole pool) (of : IsOf lease pool) (long : length bytes ≡ pool.room) where
-  fits : lease.slot * pool.room + length bytes ≤ length pool.block
-  fits = omega (arith, long, slot_within lease.slot pool.room pool.free pool.block of.out whole)
+  fits : lease.slot * pool.room + pool.room ≤ length pool.block
+  fits = slot_within lease.slot pool.room pool.free pool.block of.out whole
 
   -- what is written through a lease is what it shows
   pub own_bytes : bytes_of lease (with_bytes lease pool bytes) ≡ bytes
-  own_bytes =
-      let at = lease.slot * pool.room in
-      ap (λ n. take n (drop at (written_at at bytes pool.block))) (sym long)
-      ∙ written_there at bytes pool.block fits
+  own_bytes = part_written pool.room lease.slot bytes pool.block long fits
 
   -- and no other lease shows a byte of it
   pub others_bytes : (other : Held) → other.slot ≢ lease.slot → bytes_of other (with_bytes lease pool bytes) ≡ bytes_of other pool
-  others_bytes other apart = elim (cases_lt other.slot lease.slot) [
-    | inl below ↦ written_below (lease.slot * pool.room) bytes pool.block fits (other.slot * pool.room) pool.room
-        (omega (arith, mul-le-mul_right pool.room below))
-    | inr above ↦ ap (take pool.room) (written_above (lease.slot * pool.room) bytes pool.block fits (other.slot * pool.room)
-        (let next : suc lease.slot ≤ other.slot = omega arith in omega (arith, long, mul-le-mul_right pool.room next)))
-  ]
+  others_bytes other apart = part_kept pool.room lease.slot bytes pool.block long fits other.slot apart
+
+  -- the block is still all slots
+  pub whole_written : IsWhole (with_bytes lease pool bytes)
+  whole_written = length_written pool.room lease.slot bytes pool.block long fits ∙ whole
+
+-- a lease shows as many bytes as a slot has
+pub length_bytes : (pool : Region) (lease : Held) → IsWhole pool → IsOf lease pool → length (bytes_of lease pool) ≡ pool.room
+length_bytes pool lease whole of =
+    let within = slot_within lease.slot pool.room pool.free pool.block of.out whole in
+    omega (arith, within, length-take pool.room (drop (lease.slot * pool.room) pool.block), length-drop (lease.slot * pool.room) pool.block)

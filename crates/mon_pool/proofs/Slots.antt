@@ -61,17 +61,22 @@ new_apart free slot other first out same =
     let not_free : get_or free other false ≡ false = get_or_from_slice_get free other false false out in
     true≢false (sym at.1 ∙ ap (λ n. get_or free n false) (sym same) ∙ not_free)
 
--- a slot that is out once another was freed was out before
-out_before : (free : List Bool) (slot other : ℕ) → slice_get (slice_set free slot true) other ≡ Some false → slice_get free other ≡ Some false
-out_before [] slot other out = out
+-- a slot that is out once another was freed was out before, and is another
+out_before : (free : List Bool) (slot other : ℕ) → slice_get (slice_set free slot true) other ≡ Some false
+    → (slice_get free other ≡ Some false) × (other ≢ slot)
+out_before [] slot other out = cc
 out_before (x ∷ free) zero zero out = cc
-out_before (x ∷ free) zero (suc other) out = out
-out_before (x ∷ free) (suc slot) zero out = out
-out_before (x ∷ free) (suc slot) (suc other) out = out_before free slot other out
+out_before (x ∷ free) zero (suc other) out = (out, λ same. cc)
+out_before (x ∷ free) (suc slot) zero out = (out, λ same. cc)
+out_before (x ∷ free) (suc slot) (suc other) out =
+    let before = out_before free slot other out in
+    (before.0, λ same. before.1 (omega arith))
 
--- so a lease that is of the pool once another was given back was before
-pub of_before : (pool : Region) (lease other : Held) → IsOf other (given lease pool) → IsOf other pool
-of_before pool lease other of = record { block = of.block; out = out_before pool.free lease.slot other.slot of.out }
+-- so a lease that is of the pool once another was given back was before, and is of another slot
+pub of_before : (pool : Region) (lease other : Held) → IsOf other (given lease pool) → IsOf other pool × (other.slot ≢ lease.slot)
+of_before pool lease other of =
+    let before = out_before pool.free lease.slot other.slot of.out in
+    (record { block = of.block; out = before.0 }, before.1)
 
 -- what is written through a lease leaves every lease of the pool
 pub are_of_written : (leases : List Held) (pool : Region) (lease : Held) (bytes : List ℕ) → AreOf leases pool → AreOf leases (with_bytes lease pool bytes)
