@@ -1,3 +1,4 @@
 pub mod DueTags
 pub mod Replies
 pub mod Hearing
+pub mod Buffers

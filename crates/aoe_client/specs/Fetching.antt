@@ -1,6 +1,6 @@
 -- What one slot of the client asks for, and what each event does to it.
-use Rattle.std.specs.Prelude.{ℕ, ◌+◌, ◌-◌, ◌*◌, ◌==◌, nat_lt, Bool, true, false, List, [], ◌∷◌, ◌++◌, length, take, drop, map, replicate, slice_get, slice_set, Option, Some, None, if◌then◌else◌}
-use Rattle.mon_pool.specs.Region.{Held, Region, bytes_of, with_bytes}
+use Rattle.std.specs.Prelude.{ℕ, ◌+◌, ◌-◌, ◌*◌, ◌==◌, nat_lt, Bool, true, false, List, [], ◌∷◌, length, take, drop, map, replicate, slice_get, slice_set, Option, Some, None, if◌then◌else◌}
+use Rattle.mon_pool.specs.Region.{Held, Region, bytes_of, with_bytes, written_at}
 use Rattle.aoe_client.specs.declared.tags.TagState.{TagState}
 use Rattle.aoe_client.specs.declared.tags.TagState.TheVariants.{Due, Sent, Answered}
 use Rattle.aoe_client.specs.declared.tags.TheConstants.{PART_BYTES, RESEND_AGE}
@@ -80,7 +80,7 @@ part i bytes = take PART_BYTES (drop (i * PART_BYTES) bytes)
 
 -- the same bytes, but with this part
 abbrev pub with_part : ℕ → List ℕ → List ℕ → List ℕ
-with_part i sectors bytes = take (i * PART_BYTES) bytes ++ sectors ++ drop (i * PART_BYTES + PART_BYTES) bytes
+with_part i sectors bytes = written_at (i * PART_BYTES) sectors bytes
 
 -- a pool once a tag's two sectors are in the buffer
 abbrev pub with_sectors : ℕ → List ℕ → Fetching → Region → Region

@@ -1,3 +1,4 @@
 pub mod Fetching
 pub mod Asking
 pub mod Messages
+pub mod Buffers
