@@ -1,8 +1,9 @@
 //! The client and its calls.
 
-ghost use Rattle.std.specs.Prelude.{◌≡◌, ◌+◌, ◌*◌, ◌<◌, ◌≤◌, ◌^◌, ◌↔◌, All, ℕ, IfErr, IfSome, IsErr, IsSome, IsTrue, OnErr, OnOk, None, Some, is_some, length, true, option_map, slice_get, if◌then◌else◌};
-ghost use Rattle.mon_pool.specs.Region.{AreOf, all_given};
+ghost use Rattle.std.specs.Prelude.{◌≡◌, ◌+◌, ◌*◌, ◌<◌, ◌≤◌, ◌^◌, ◌↔◌, All, ℕ, List, IfErr, IfSome, IsErr, IsSome, IsTrue, OnErr, OnOk, None, Some, is_some, length, true, option_map, slice_get, if◌then◌else◌};
+ghost use Rattle.mon_pool.specs.Region.{AreOf, Region, all_given};
 ghost use Rattle.aoe_client.specs.Asking.{Asking, IsBlockSize, both_ticked, buffers_heard, done_in, due_tags, first_due, heard, in_slot, is_awaited, leases_of, next_sent, nothing_asked, tags_in, with_slot};
+ghost use Rattle.aoe_client.specs.Buffers.{BothHold, Gives, Holds, IsFetched};
 ghost use Rattle.aoe_client.specs.Fetching.{asked_for};
 ghost use Rattle.aoe_client.specs.Messages.{Answers, request_frame, sectors_in};
 
@@ -11,7 +12,7 @@ use crate::messages::{answered_by, request};
 use crate::slot::{due_in, end_slot, fill, hear_in, send_in, take_done, tick_slot};
 use crate::tags::PART_BYTES;
 use aoe_frame::Frame;
-use mon_pool::{Lease, Pool};
+use mon_pool::{Lease, Pool, a_pool_is_whole};
 use std::marker::Model;
 
 /// The two things that a block is asked for.
@@ -111,6 +112,7 @@ impl Client {
     pub fn next_send(&mut self) -> Option<Frame>
         ensures request { result ≡ option_map request_frame (slice_get (due_tags self.old) 0) }
         ensures after { self.new ≡ next_sent (first_due self.old.demand) self.old }
+        ensures leases { leases_of self.new ≡ leases_of self.old }
     {
         let tag = match send_in(&mut self.demand) {
             Some(tag) => tag,
@@ -121,7 +123,8 @@ impl Client {
 
     /// A tick: each slot is older by one, and at the fourth its unanswered tags are due again.
     pub fn tick(&mut self)
-        ensures { self.new ≡ both_ticked self.old }
+        ensures after { self.new ≡ both_ticked self.old }
+        ensures leases { leases_of self.new ≡ leases_of self.old }
     {
         tick_slot(&mut self.demand);
         tick_slot(&mut self.background);
@@ -136,6 +139,9 @@ impl Client {
             ↔ (Answers frame.now tag × (is_awaited tag self.old ≡ true)) }
         ensures after { self.new ≡ heard result self.old }
         ensures buffers { pool.new ≡ buffers_heard result (sectors_in frame.now) self.old pool.old }
+        ensures kept { (source : ℕ → List ℕ) → Gives source (sectors_in frame.now) result →
+            BothHold source self.old pool.old → BothHold source self.new pool.new }
+        ensures held { AreOf (leases_of self.new) pool.new }
     {
         let Some(tag) = answered_by(frame) else {
             return Heard::Ignored;
@@ -153,6 +159,8 @@ impl Client {
     pub fn done(&mut self, slot: Slot) -> Option<(u32, Lease)>
         ensures fetched { result ≡ done_in (in_slot slot self.old) }
         ensures after { self.new ≡ (if is_some result then with_slot slot None self.old else self.old) }
+        ensures finished { (source : ℕ → List ℕ) (pool : Region) → Holds source (in_slot slot self.old) pool →
+            IfSome result (IsFetched source (tags_in self.old.block) pool) }
     {
         match slot {
             Slot::Demand => take_done(&mut self.demand),
@@ -193,7 +201,11 @@ impl Client {
         ensures awaited { result ≡ is_awaited tag self.old }
         ensures after { self.new ≡ heard (Heard.Took tag) self.old }
         ensures buffers { pool.new ≡ buffers_heard (Heard.Took tag) sectors.now self.old pool.old }
+        ensures kept { (source : ℕ → List ℕ) → source tag ≡ sectors.now →
+            BothHold source self.old pool.old → BothHold source self.new pool.new }
+        ensures held { AreOf (leases_of self.new) pool.new }
     {
+        a_pool_is_whole(pool);
         let demand = hear_in(&mut self.demand, pool, tag, sectors);
         let background = hear_in(&mut self.background, pool, tag, sectors);
         demand || background
