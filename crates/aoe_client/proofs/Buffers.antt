@@ -159,11 +159,10 @@ module _ (source : ℕ → List ℕ) (tag : ℕ) (sectors : List ℕ) (long : le
       let ready = ready_both d b pool are room_d room_b in
       let first = slot_filled one tag sectors d pool in
       let whole_first = filled_whole one d pool refl whole ready.0 in
-      let ready_b = filled_ready one d b pool ready.1 in
-      (
+      let ready_b = filled_ready one d b pool ready.1 in (
         filled_other two b (slot_answered one tag d) first refl whole_first ready_b
-          (apart_answered one b d (apart_back d b ready.2))
-          (filled_holds one d pool refl whole ready.0 holds.0),
+            (apart_answered one b d (apart_back d b ready.2))
+            (filled_holds one d pool refl whole ready.0 holds.0),
         filled_holds two b first refl whole_first ready_b (filled_other one d b pool refl whole ready.0 ready.2 holds.1),
       )
 
@@ -189,7 +188,7 @@ fetched_where : (source : ℕ → List ℕ) (block : ℕ) (f : Fetching) (pool :
 fetched_where source block f pool false is count holds = tt
 fetched_where source block f pool true is count holds =
     parts_given source (bytes_of f.lease pool) (f.block * tags_in block) (tags_in block) (λ i below.
-      holds i (all_get f.tags i is (omega (arith, count))) ∙ ap (λ n. source (f.block * n + i)) count)
+    holds i (all_get f.tags i is (omega (arith, count))) ∙ ap (λ n. source (f.block * n + i)) count)
 
 -- what is handed over holds what the source gives for the block's tags
 pub fetched_given : (source : ℕ → List ℕ) (block : ℕ) (s : Option Fetching) (pool : Region) → HasTags block s → Holds source s pool

@@ -2,3 +2,4 @@ pub mod DueTags
 pub mod Replies
 pub mod Hearing
 pub mod Buffers
+pub mod Outlasting

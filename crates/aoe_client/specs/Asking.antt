@@ -60,10 +60,14 @@ first_due f = slice_get (due_of f) 0
 abbrev pub slot_sent : Option Fetching → Option Fetching
 slot_sent f = option_map (sent (first_due f)) f
 
--- the client once the first due tag, where there is one, is sent; the first of Demand decides whose it is
-abbrev pub next_sent : Option ℕ → Asking → Asking
-next_sent (Some tag) c = record c { demand = slot_sent c.demand }
-next_sent None c = record c { background = slot_sent c.background }
+-- Background once the next tag is sent: its own first one, where none of Demand's is due
+abbrev pub then_sent : Option ℕ → Option Fetching → Option Fetching
+then_sent None f = slot_sent f
+then_sent (Some tag) f = f
+
+-- the client once the first due tag, where there is one, is sent
+abbrev pub next_sent : Asking → Asking
+next_sent c = record c { demand = slot_sent c.demand; background = then_sent (first_due c.demand) c.background }
 
 -- a tick of both slots
 abbrev pub both_ticked : Asking → Asking
@@ -83,13 +87,14 @@ abbrev pub slot_answered : Bool → ℕ → Option Fetching → Option Fetching
 slot_answered false tag f = f
 slot_answered true tag f = option_map (with_tag Answered tag) f
 
--- the client once a frame was heard: a tag that was taken is answered in each slot in which it was open
+-- a slot once a frame was heard: a tag that was taken is answered, where it was open in the slot
+abbrev pub slot_heard : Heard → Option Fetching → Option Fetching
+slot_heard Ignored f = f
+slot_heard (Took tag) f = slot_answered (is_open_in tag f) tag f
+
+-- the client once a frame was heard
 abbrev pub heard : Heard → Asking → Asking
-heard Ignored c = c
-heard (Took tag) c = record c {
-  demand = slot_answered (is_open_in tag c.demand) tag c.demand;
-  background = slot_answered (is_open_in tag c.background) tag c.background;
-}
+heard what c = record c { demand = slot_heard what c.demand; background = slot_heard what c.background }
 
 -- a pool once a tag's sectors are in a slot's buffer, where the tag was open in the slot
 abbrev pub slot_filled : Bool → ℕ → List ℕ → Option Fetching → Region → Region

@@ -2,7 +2,7 @@
 
 ghost use Rattle.std.specs.Prelude.{◌≡◌, ◌+◌, ◌*◌, ◌<◌, ◌≤◌, ◌^◌, ◌↔◌, All, ℕ, List, IfErr, IfSome, IsErr, IsSome, IsTrue, OnErr, OnOk, None, Some, is_some, length, true, option_map, slice_get, if◌then◌else◌};
 ghost use Rattle.mon_pool.specs.Region.{AreOf, Region, all_given};
-ghost use Rattle.aoe_client.specs.Asking.{Asking, IsBlockSize, both_ticked, buffers_heard, done_in, due_tags, first_due, heard, in_slot, is_awaited, leases_of, next_sent, nothing_asked, tags_in, with_slot};
+ghost use Rattle.aoe_client.specs.Asking.{Asking, IsBlockSize, both_ticked, buffers_heard, done_in, due_tags, heard, in_slot, is_awaited, leases_of, next_sent, nothing_asked, tags_in, with_slot};
 ghost use Rattle.aoe_client.specs.Buffers.{BothHold, Gives, Holds, IsFetched};
 ghost use Rattle.aoe_client.specs.Fetching.{asked_for};
 ghost use Rattle.aoe_client.specs.Messages.{Answers, request_frame, sectors_in};
@@ -111,7 +111,7 @@ impl Client {
     /// The request of the first due tag, which is unanswered then; None exactly where no tag is due.
     pub fn next_send(&mut self) -> Option<Frame>
         ensures request { result ≡ option_map request_frame (slice_get (due_tags self.old) 0) }
-        ensures after { self.new ≡ next_sent (first_due self.old.demand) self.old }
+        ensures after { self.new ≡ next_sent self.old }
         ensures leases { leases_of self.new ≡ leases_of self.old }
     {
         let tag = match send_in(&mut self.demand) {
@@ -142,6 +142,7 @@ impl Client {
         ensures kept { (source : ℕ → List ℕ) → Gives source (sectors_in frame.now) result →
             BothHold source self.old pool.old → BothHold source self.new pool.new }
         ensures held { AreOf (leases_of self.new) pool.new }
+        ensures rest { pool.new ≡ record pool.old { block = pool.new.block } }
     {
         let Some(tag) = answered_by(frame) else {
             return Heard::Ignored;
@@ -204,6 +205,7 @@ impl Client {
         ensures kept { (source : ℕ → List ℕ) → source tag ≡ sectors.now →
             BothHold source self.old pool.old → BothHold source self.new pool.new }
         ensures held { AreOf (leases_of self.new) pool.new }
+        ensures rest { pool.new ≡ record pool.old { block = pool.new.block } }
     {
         a_pool_is_whole(pool);
         let demand = hear_in(&mut self.demand, pool, tag, sectors);

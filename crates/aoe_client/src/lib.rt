@@ -7,11 +7,15 @@
 
 mod client;
 mod fetch;
+mod laws;
 mod messages;
 mod slot;
 mod tags;
+#[cfg(test)]
+mod tests;
 
 pub use client::{Client, Full, Heard, Slot};
 pub use fetch::MOST_TAGS;
+pub use laws::buffers_outlast;
 pub use messages::{CLIENT, PART_SECTORS, READ_EXTENDED, READY, SERVER, SHELF, TARGET};
 pub use tags::{PART_BYTES, RESEND_AGE, TagState};
