@@ -1,13 +1,13 @@
 -- What the buffers hold while frames are heard, and once they are handed over.
-use Rattle.std.proofs.Common.{◌≡◌, ◌≢◌, ℕ, zero, suc, ◌+◌, ◌-◌, ◌*◌, ◌<◌, ◌≤◌, Bool, true, false, List, [], ◌∷◌, ◌++◌, length, take, drop, slice_get, slice_set, Option, Some, None, refl, sym, ap, ◌∙◌, subst, inl, inr, arith, cond}
+use Rattle.std.proofs.Common.{◌≡◌, ◌≢◌, ℕ, zero, suc, ◌+◌, ◌-◌, ◌*◌, ◌<◌, ◌≤◌, Bool, true, false, List, [], ◌∷◌, ◌++◌, length, take, drop, slice_get, slice_set, Option, Some, None, refl, sym, ap, ◌∙◌, inl, inr, arith, cond}
 use Rattle.std.specs.Prelude.{nat_lt, IfSome}
 use Rattle.std.specs.List.{list_all}
 use Rattle.std.proofs.Math.ListN.{length-set}
 use Rattle.std.proofs.Math.Nat.{mul-le-mul_right, suc-mul}
-use Rattle.std.proofs.lemmas.List.{take-append-drop, take-take, drop-take, take_at}
+use Rattle.std.proofs.lemmas.List.{take-append-drop, take-take, drop-take}
 use Rattle.std.proofs.lemmas.Bool.{cases_eq, cases_lt, cond_below, cond_above, true≢false}
 use Rattle.std.proofs.lemmas.Option.{slice_get_within}
-use Rattle.mon_pool.specs.Region.{Held, Region, AreOf, IsOf, IsWhole, bytes_of}
+use Rattle.mon_pool.specs.Region.{Region, AreOf, IsOf, IsWhole, bytes_of}
 use Rattle.mon_pool.proofs.Slots.{of_before}
 use Rattle.mon_pool.proofs.Parts.{length_bytes, length_written, part_written, part_kept, own_bytes, others_bytes, whole_written}
 use Rattle.aoe_client.specs.declared.tags.TagState.{TagState}

@@ -2,4 +2,5 @@ pub mod DueTags
 pub mod Replies
 pub mod Hearing
 pub mod Buffers
+pub mod ServerReplies
 pub mod Outlasting

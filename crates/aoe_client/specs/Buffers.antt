@@ -1,12 +1,12 @@
 -- What the buffers hold, tag by tag.
-use Rattle.std.specs.Prelude.{ℕ, zero, suc, ◌≡◌, ◌+◌, ◌*◌, List, [], ◌++◌, take, drop, slice_get, Option, Some, None}
+use Rattle.std.specs.Prelude.{ℕ, zero, suc, ◌≡◌, ◌+◌, ◌*◌, List, [], ◌++◌, take, slice_get, Option, Some, None}
 use Rattle.mon_pool.specs.Region.{Held, Region, bytes_of}
 use Rattle.aoe_client.specs.declared.client.Heard.{Heard}
 use Rattle.aoe_client.specs.declared.client.Heard.TheVariants.{Took, Ignored}
 use Rattle.aoe_client.specs.declared.tags.TagState.TheVariants.{Answered}
 use Rattle.aoe_client.specs.declared.tags.TheConstants.{PART_BYTES}
 use Rattle.aoe_client.specs.Fetching.{Fetching, first_tag, part}
-use Rattle.aoe_client.specs.Asking.{Asking, tags_in}
+use Rattle.aoe_client.specs.Asking.{Asking}
 
 -- a slot's buffer holds of each answered tag what a source gives for it
 abbrev pub Holds : (ℕ → List ℕ) → Option Fetching → Region → Type 0

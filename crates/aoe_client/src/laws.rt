@@ -1,6 +1,13 @@
 //! Laws of the client: what the buffers hold outlasts every call that hears no frame.
 
-ghost use Rattle.std.specs.Prelude.{◌≡◌, ℕ, List, None, Some};
+ghost use Rattle.std.specs.Prelude.{◌≡◌, ◌*◌, ℕ, List, None, Result, Some};
+ghost use Rattle.bm_host.specs.Outside.{bytes_at};
+ghost use Rattle.aoe_frame.specs.declared.message.Aoe.{Aoe as AoeOf};
+ghost use Rattle.aoe_frame.specs.declared.message.FrameFault.{FrameFault as FaultOf};
+ghost use Rattle.aoe_frame.specs.Layout.{frame_of};
+ghost use Rattle.aoe_frame.specs.Reading.{IsReading};
+ghost use Rattle.image_server.specs.Reply.{reply};
+ghost use Rattle.aoe_client.specs.Messages.{Answers, sectors_in};
 ghost use Rattle.mon_pool.specs.Region.{Held, Region};
 ghost use Rattle.aoe_client.specs.declared.client.Slot.{Slot as SlotOf};
 ghost use Rattle.aoe_client.specs.Asking.{Asking, both_ticked, next_sent, with_slot};
@@ -19,4 +26,12 @@ pub fn buffers_outlast()
         BothHold source (with_slot slot (Some (asked_for count block lease)) c) pool }
     ensures freeing { (source : ℕ → List ℕ) (pool : Region) (slot : SlotOf) (c : Asking) →
         BothHold source c pool → BothHold source (with_slot slot None c) pool }
+{}
+
+/// What is taken for a tag of a frame that the server sent over an image, in reply to whatever frame, is the tag's two
+/// sectors of the image.
+pub fn the_servers_sectors_are_the_images()
+    ensures { (sectors : ℕ) (image : List ℕ) (tag : ℕ) (r : Result AoeOf FaultOf) (asked bytes : List ℕ) (m : AoeOf) →
+        IsReading asked r → reply sectors image r ≡ Some m → bytes ≡ frame_of m →
+        Answers bytes tag → sectors_in bytes ≡ bytes_at (1024 * tag) 1024 image }
 {}

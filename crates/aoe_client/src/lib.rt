@@ -16,6 +16,6 @@ mod tests;
 
 pub use client::{Client, Full, Heard, Slot};
 pub use fetch::MOST_TAGS;
-pub use laws::buffers_outlast;
+pub use laws::{buffers_outlast, the_servers_sectors_are_the_images};
 pub use messages::{CLIENT, PART_SECTORS, READ_EXTENDED, READY, SERVER, SHELF, TARGET};
 pub use tags::{PART_BYTES, RESEND_AGE, TagState};

@@ -1,11 +1,16 @@
 //! A block of four tags: its requests, and replies to them, byte by byte from the layout of a frame.
 
+ghost use Rattle.std.specs.Prelude.{◌≡◌, ◌≤◌, IsSome, Some};
+ghost use Rattle.mon_pool.specs.Region.{AreOf, IsOf, first_free, given};
+ghost use Rattle.aoe_client.specs.Asking.{in_slot, leases_of};
+
 use crate::{Client, Full, Heard, Slot};
 use aoe_frame::Frame;
-use mon_pool::Pool;
+use mon_pool::{Lease, Pool};
+use std::process::Abort;
 use std::test::Fail;
 
-// The request for a tag below 128: READ SECTOR(S) EXT of two sectors from twice the tag on.
+// The request for a tag: READ SECTOR(S) EXT of two sectors from twice the tag on, whose low byte is given.
 fn request(tag: u8, low: u8) -> Option<Frame> {
     Frame::from_slice(&[
         2, 0, 0, 0, 0, 2, 2, 0, 0, 0, 0, 1, 0x88, 0xa2, 0x10, 0, 0, 1, 1, 0, 0, 0, 0, tag, 0x40, 0,
@@ -13,37 +18,62 @@ fn request(tag: u8, low: u8) -> Option<Frame> {
     ])
 }
 
-// A reply for it with this status, and a body of so many bytes, each of them the tag.
-fn reply(tag: u8, low: u8, status: u8, body: usize) -> Option<Frame> {
+// A reply to it with this status, and a body of so many bytes.
+fn reply(tag: u8, low: u8, status: u8, body: usize) -> Option<Frame>
+    requires { body ≤ 1024 }
+{
     let mut bytes = [tag; 1060];
     bytes[..36].copy_from_slice(&[
         2, 0, 0, 0, 0, 1, 2, 0, 0, 0, 0, 2, 0x88, 0xa2, 0x18, 0, 0, 1, 1, 0, 0, 0, 0, tag, 0x40, 0,
         2, status, low, 0, 0, 0, 0, 0, 0, 0,
     ]);
-    Frame::from_slice(bytes.get(..36 + body)?)
+    Frame::from_slice(&bytes[..36 + body])
 }
 
-// The tags are sent in rising order. A slot in use hands a second lease back, and all leases come back in the end.
+// A client that asks for block 0 in the slot Demand.
+fn asking(rt: &impl Abort, pool: &mut Pool) -> Client
+    requires free { first_free pool.old ≡ Some 0 }
+    ensures used { IsSome (in_slot Slot.Demand result) }
+    ensures size { result.block ≡ 8 }
+    ensures held { AreOf (leases_of result) pool.new }
+    ensures room { pool.new.room ≡ pool.old.room }
+{
+    let mut client = Client::new(8);
+    let lease = pool.take().expect(rt, "a free slot");
+    match client.ask(Slot::Demand, 0, lease) {
+        Ok(()) => client,
+        Err(_refused) => unreachable!(),
+    }
+}
+
+// Asks in the slot Demand while it is in use: the lease comes back.
+fn refuse(client: &mut Client, pool: &mut Pool, lease: Lease)
+    requires used { IsSome (in_slot Slot.Demand client.old) }
+    requires size { client.old.block ≡ 8 }
+    requires of_pool { IsOf lease pool.old }
+    ensures client { client.new ≡ client.old }
+    ensures pool { pool.new ≡ given lease pool.old }
+{
+    match client.ask(Slot::Demand, 1, lease) {
+        Ok(()) => unreachable!(),
+        Err((lease, Full)) => pool.give(lease),
+    }
+}
+
+// The tags are sent in rising order, and a slot in use hands a second lease back.
 #[test]
 fn a_block_is_asked_for(rt: HostRuntime) -> Result<(), Fail> {
-    let mut pool = Pool::new(rt.alloc(), 4, 4096)?;
-    let mut client = Client::new(8);
-    let first = pool.take().expect(&rt, "a lease");
-    let second = pool.take().expect(&rt, "another");
-    if let Err((lease, Full)) = client.ask(Slot::Demand, 0, first) {
-        pool.give(lease);
-    }
-    if let Err((lease, Full)) = client.ask(Slot::Demand, 1, second) {
-        pool.give(lease);
-    }
-    assert_eq!(rt; pool.free(), 3);
+    let mut pool = Pool::new(rt.alloc(), 1, 4096)?;
+    let mut other = Pool::new(rt.alloc(), 1, 4096)?;
+    let mut client = asking(&rt, &mut pool);
+    let lease = other.take().expect(&rt, "a free slot");
+    refuse(&mut client, &mut other, lease);
     assert_eq!(rt; client.next_send(), request(0, 0));
     assert_eq!(rt; client.next_send(), request(1, 2));
     assert_eq!(rt; client.next_send(), request(2, 4));
     assert_eq!(rt; client.next_send(), request(3, 6));
     assert_eq!(rt; client.next_send(), None);
     client.end(&mut pool);
-    assert_eq!(rt; pool.free(), 4);
     Ok(())
 }
 
@@ -51,12 +81,8 @@ fn a_block_is_asked_for(rt: HostRuntime) -> Result<(), Fail> {
 // sent again at the fourth tick.
 #[test]
 fn replies_are_heard(rt: HostRuntime) -> Result<(), Fail> {
-    let mut pool = Pool::new(rt.alloc(), 4, 4096)?;
-    let mut client = Client::new(8);
-    let lease = pool.take().expect(&rt, "a lease");
-    if let Err((lease, Full)) = client.ask(Slot::Demand, 0, lease) {
-        pool.give(lease);
-    }
+    let mut pool = Pool::new(rt.alloc(), 1, 4096)?;
+    let mut client = asking(&rt, &mut pool);
     for _ in 0..4usize {
         client.next_send();
     }
@@ -67,9 +93,8 @@ fn replies_are_heard(rt: HostRuntime) -> Result<(), Fail> {
         (reply(2, 4, 0x51, 1024), Heard::Ignored),
     ];
     for (frame, heard) in heard {
-        if let Some(frame) = frame {
-            assert_eq!(rt; client.frame_in(&mut pool, &frame), heard);
-        }
+        let frame = frame.expect(&rt, "a frame");
+        assert_eq!(rt; client.frame_in(&mut pool, &frame), heard);
     }
     for tick in 0..4usize {
         assert_eq!(rt; client.due(0), None, "tick {tick}");
