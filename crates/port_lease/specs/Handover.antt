@@ -1,0 +1,55 @@
+-- What taking, giving and removing make of the drive and of the view.
+use Rattle.std.specs.Prelude.{◌≡◌, ℕ, Bool, not, ◌&&◌, ◌==◌, if◌then◌else◌, slice_index, List, [], ◌∷◌}
+use Rattle.ata_taskfile.specs.declared.Phase.TheVariants.{Busy}
+use Rattle.ata_taskfile.specs.declared.task_file.TaskFile.{TaskFile}
+use Rattle.ata_taskfile.specs.declared.bus_master.Bus.{Bus}
+use Rattle.ata_taskfile.specs.TaskFile.{status, shown}
+use Rattle.ata_taskfile.specs.Bus.{walk_stopped}
+use Rattle.ata_taskfile.specs.Order.{inputs, order_of, taken}
+use Rattle.ata_taskfile.specs.Device.{Device, with_bus}
+use Rattle.port_lease.specs.declared.view.View.{View}
+use Rattle.port_lease.specs.View.{uses_bus}
+
+-- a two-byte register as it is read: its current byte, and its previous one
+abbrev pub both_bytes : List ℕ → List ℕ
+both_bytes bytes = slice_index bytes 0 ∷ slice_index bytes 1 ∷ []
+
+-- the byte that each two-byte register shows: Count, Low, Mid, High
+abbrev pub shown_bytes : TaskFile → List ℕ
+shown_bytes f = shown f f.count ∷ shown f f.low ∷ shown f f.mid ∷ shown f f.high ∷ []
+
+-- registers as they are read
+abbrev pub as_read : TaskFile → TaskFile
+as_read f = record f { count = both_bytes f.count; low = both_bytes f.low; mid = both_bytes f.mid; high = both_bytes f.high }
+
+-- the registers of the view after a take: the drive's, with the byte of the last command given, which no register shows
+abbrev pub file_taken : TaskFile → TaskFile → TaskFile
+file_taken kept f = record (as_read f) { command = kept.command }
+
+-- the drive after a take: as it was, but that a walk of its is stopped
+abbrev pub after_take : Device → Device
+after_take d = with_bus (walk_stopped d.bus) d
+
+-- the view stands at the start of the command's order, on a drive of so many sectors
+abbrev pub IsOrdered : View → ℕ → ℕ → Type 0
+IsOrdered v command sectors = v.file.phase ≡ Busy (taken (order_of command (inputs v.file) sectors)) 0
+
+-- the drive's bus master after a give: the view's where the command uses it, with the drive's own error and interrupt bits
+abbrev pub bus_given : View → Bus → Bus
+bus_given v b = if uses_bus v then record v.bus { error = b.error; interrupt = b.interrupt } else b
+
+-- the drive after a give: it is at work on the command, over the registers of the view
+abbrev pub after_give : View → ℕ → Device → Device
+after_give v command d = record d { file = record v.file { command = command }; bus = bus_given v d.bus }
+
+-- Status 50h and Error 00h are shown: at rest, and the last command went well (own)
+abbrev pub shows_well : TaskFile → Bool
+shows_well f = (status f == 80) && (f.error == 0)
+
+-- a guest would see nothing of the monitor's going: all is well in the view, nothing pends, no walk was begun, and no own command stands (own)
+abbrev pub is_clean : View → Bool → Bool
+is_clean v own = shows_well v.file && not v.file.pending && not v.bus.start && not v.bus.error && not own
+
+-- the drive after the monitor's removal: over the registers and the bus master of the view, with its own error and interrupt bits
+abbrev pub after_remove : View → Device → Device
+after_remove v d = record d { file = record v.file { command = d.file.command }; bus = record v.bus { error = d.bus.error; interrupt = d.bus.interrupt } }

@@ -1,0 +1,28 @@
+//! Who has the drive: the guest, the monitor, or, once the monitor is gone, the guest alone.
+//!
+//! Each state is a type that can be neither copied nor let go. Start with `guest_side`, `monitor_side` and `gone`
+//! for the types, then `taking`, `giving` and `removing` for the ways from one to the next, and `guest_access` for
+//! what a guest's access does on its own side. `specs/Seen.antt` says what the guest sees on either side,
+//! `specs/Handover.antt` what a change of sides makes of drive and view, and `docs/monitor.md` has the rules as
+//! tables.
+
+#![tactic(auto)]
+
+mod giving;
+mod gone;
+mod guest_access;
+mod guest_side;
+mod monitor_side;
+mod reading;
+mod removing;
+mod taking;
+mod view;
+mod writing;
+
+pub use giving::give;
+pub use gone::Gone;
+pub use guest_side::GuestSide;
+pub use monitor_side::{MonitorSide, power_on};
+pub use removing::{Unclean, remove};
+pub use taking::{Busy, take};
+pub use view::View;

@@ -1,0 +1,116 @@
+//! What the monitor writes to a drive at rest.
+
+ghost use Rattle.std.specs.Prelude.{◌≡◌, ◌%◌, true, false, length, slice_index, bit_and, []};
+ghost use Rattle.ata_taskfile.specs.declared.Phase.TheVariants.{Idle, Busy as AtWork};
+ghost use Rattle.ata_taskfile.specs.TaskFile.{has_bit, stored};
+ghost use Rattle.ata_taskfile.specs.Order.{inputs, order_of, taken};
+ghost use Rattle.ata_taskfile.specs.Bus.{bit_shown};
+ghost use Rattle.ata_taskfile.specs.Device.{with_bus};
+ghost use Rattle.port_lease.specs.Handover.{after_take};
+ghost use Rattle.port_lease.specs.Writing.{is_plain_register, with_registers, IsAtRest, bus_put, bus_started};
+
+use crate::reading::peek;
+use ata_taskfile::registers::{INWARD, START};
+use ata_taskfile::{Bus, Ports, Reg, TaskFile};
+
+// Stops the drive's walk, and leaves the direction.
+pub(crate) fn stop_walk<P: Ports>(ports: &mut P)
+    ensures stopped { P.device ports.new ≡ after_take (P.device ports.old) }
+    ensures rest { P.rest ports.new ≡ P.rest ports.old }
+{
+    let command = peek(ports, Reg::BusCommand);
+    ports.write8(Reg::BusCommand, command & !START);
+}
+
+// Device Control of a drive without an interrupt, so that the line stays low.
+pub(crate) fn put_control<P: Ports>(ports: &mut P, v: u8)
+    requires unpended { (P.device ports.old).file.pending ≡ false }
+    requires no_reset { has_bit 4 v ≡ false }
+    ensures put { let d = P.device ports.old in
+        P.device ports.new ≡ record d { file = record d.file { control = bit_and v 134 } } }
+    ensures rest { P.rest ports.new ≡ P.rest ports.old }
+{
+    ports.write8(Reg::Alternate, v);
+}
+
+// One byte of a drive at rest.
+fn put<P: Ports>(ports: &mut P, reg: Reg, v: u8)
+    requires plain { is_plain_register reg ≡ true }
+    requires rests { IsAtRest (P.device ports.old).file }
+    ensures put { let d = P.device ports.old in
+        P.device ports.new ≡ record d { file = stored reg v d.file } }
+    ensures rest { P.rest ports.new ≡ P.rest ports.old }
+{
+    ports.write8(reg, v);
+}
+
+// Both bytes of a register. The previous one goes first, since the current one makes it the previous.
+fn put_both<P: Ports>(ports: &mut P, reg: Reg, bytes: [u8; 2])
+    requires plain { is_plain_register reg ≡ true }
+    requires rests { IsAtRest (P.device ports.old).file }
+    ensures put { let d = P.device ports.old in P.device ports.new
+        ≡ record d { file = stored reg (slice_index bytes 0) (stored reg (slice_index bytes 1) d.file) } }
+    ensures rest { P.rest ports.new ≡ P.rest ports.old }
+{
+    put(ports, reg, bytes[1]);
+    put(ports, reg, bytes[0]);
+}
+
+// All that a command reads, into a drive at rest.
+pub(crate) fn put_registers<P: Ports>(ports: &mut P, file: &TaskFile)
+    requires rests { IsAtRest (P.device ports.old).file }
+    ensures put { let d = P.device ports.old in
+        P.device ports.new ≡ record d { file = with_registers file.now d.file } }
+    ensures rest { P.rest ports.new ≡ P.rest ports.old }
+{
+    put(ports, Reg::Error, file.features);
+    put_both(ports, Reg::Count, file.count);
+    put_both(ports, Reg::Low, file.low);
+    put_both(ports, Reg::Mid, file.mid);
+    put_both(ports, Reg::High, file.high);
+    put(ports, Reg::Device, file.device);
+}
+
+// A command for a drive at rest whose Device register names it.
+pub(crate) fn put_command<P: Ports>(ports: &mut P, command: u8)
+    requires rests { IsAtRest (P.device ports.old).file }
+    requires selected { has_bit 16 (P.device ports.old).file.device ≡ false }
+    ensures taken { let d = P.device ports.old in P.device ports.new ≡ record d {
+      file = record d.file {
+        command = command;
+        error = 0;
+        failed = false;
+        phase = AtWork (taken (order_of command (inputs d.file) d.sectors)) 0;
+      };
+    } }
+    ensures rest { P.rest ports.new ≡ P.rest ports.old }
+{
+    ports.write8(Reg::Status, command);
+}
+
+// The direction and the pointer of a bus master, which is stopped for it.
+pub(crate) fn put_bus<P: Ports>(ports: &mut P, bus: &Bus)
+    requires { bus.now.pointer % 4 ≡ 0 }
+    ensures put { P.device ports.new ≡ with_bus (bus_put bus.now (P.device ports.old).bus) (P.device ports.old) }
+    ensures rest { P.rest ports.new ≡ P.rest ports.old }
+{
+    ports.write8(Reg::BusCommand, direction(bus));
+    ports.write_pointer(bus.pointer);
+}
+
+// And a walk, which begins at the table's top.
+pub(crate) fn start_bus<P: Ports>(ports: &mut P, bus: &Bus)
+    requires { bus.now.pointer % 4 ≡ 0 }
+    ensures put { P.device ports.new ≡ with_bus (bus_started bus.now (P.device ports.old).bus) (P.device ports.old) }
+    ensures rest { P.rest ports.new ≡ P.rest ports.old }
+{
+    put_bus(ports, bus);
+    ports.write8(Reg::BusCommand, direction(bus) | START);
+}
+
+// The command register without start.
+fn direction(bus: &Bus) -> u8
+    ensures { result ≡ bit_shown bus.now.inward INWARD }
+{
+    if bus.inward { INWARD } else { 0 }
+}
