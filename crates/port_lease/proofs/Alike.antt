@@ -1,5 +1,5 @@
 -- Each next read of the guest's answers alike.
-use Rattle.std.proofs.Common.{◌≡◌, ℕ, Bool, true, false, ◌||◌, if◌then◌else◌, refl, ap, ◌∙◌, arith}
+use Rattle.std.proofs.Common.{◌≡◌, ℕ, Bool, true, false, if◌then◌else◌, refl, ap, ◌∙◌}
 use Rattle.ata_taskfile.specs.declared.Reg.{Reg}
 use Rattle.ata_taskfile.specs.declared.Reg.TheVariants as reg
 use Rattle.ata_taskfile.specs.declared.task_file.TaskFile.{TaskFile}
@@ -9,7 +9,7 @@ use Rattle.ata_taskfile.specs.Bus.{bus_value}
 use Rattle.ata_taskfile.specs.Device.{Device}
 use Rattle.port_lease.specs.declared.view.View.{View}
 use Rattle.port_lease.specs.View.{uses_bus}
-use Rattle.port_lease.specs.Seen.{Seen, seen_of, seen_on_guest_side, seen_on_monitor_side, bus_beside, bus_on_guest_side, byte_seen, AnswersAlike}
+use Rattle.port_lease.specs.Seen.{seen_of, seen_on_guest_side, seen_on_monitor_side, bus_beside, bus_on_guest_side, AnswersAlike}
 use Rattle.port_lease.specs.Handover.{after_give, after_remove, bus_given}
 
 -- no register shows the byte of the last command

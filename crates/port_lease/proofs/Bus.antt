@@ -1,5 +1,5 @@
 -- What the registers of a bus master tell.
-use Rattle.std.proofs.Common.{◌≡◌, ℕ, Bool, true, false, if◌then◌else◌, bit_or, bit_and, Option, Some, None, is_some, refl, ap, arith}
+use Rattle.std.proofs.Common.{◌≡◌, ℕ, Bool, true, false, if◌then◌else◌, bit_or, bit_and, Option, Some, None, is_some, refl}
 use Rattle.ata_taskfile.specs.declared.bus_master.Bus.{Bus}
 use Rattle.ata_taskfile.specs.declared.registers.TheConstants.{START, INWARD, ACTIVE, BUS_ERROR, INTERRUPT}
 use Rattle.ata_taskfile.specs.TaskFile.{has_bit}

@@ -1,3 +1,4 @@
 pub mod Bus
 pub mod Alike
 pub mod Plain
+pub mod Guest

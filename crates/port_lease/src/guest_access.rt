@@ -105,7 +105,11 @@ fn status_seen<P: Ports>(view: &View, ports: &mut P) -> u8
     ensures rest { P.rest ports.new ≡ P.rest ports.old }
 {
     let shown = peek(ports, Reg::BusStatus);
-    let active = if view.file.phase.is_moving() { has_bit(ACTIVE, shown) } else { view.bus.active };
+    let active = if view.file.phase.is_moving() {
+        has_bit(ACTIVE, shown)
+    } else {
+        view.bus.active
+    };
     let bus = Bus {
         active,
         error: view.bus.error || has_bit(BUS_ERROR, shown),
@@ -118,7 +122,11 @@ fn status_seen<P: Ports>(view: &View, ports: &mut P) -> u8
 fn read_pointer<P: Ports>(view: &View, ports: &P) -> u32
     ensures { result ≡ pointer_read (on_guest_side view.now (P.device ports.now)) }
 {
-    if view.file.phase.is_moving() { ports.read_pointer() } else { view.bus.pointer }
+    if view.file.phase.is_moving() {
+        ports.read_pointer()
+    } else {
+        view.bus.pointer
+    }
 }
 
 // Error and interrupt bit are cleared in both.
