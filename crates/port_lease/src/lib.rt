@@ -14,8 +14,12 @@ mod guest_access;
 mod guest_side;
 mod monitor_side;
 mod reading;
+#[cfg(test)]
+mod register_file;
 mod removing;
 mod taking;
+#[cfg(test)]
+mod tests;
 mod view;
 mod writing;
 
