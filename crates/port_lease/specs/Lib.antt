@@ -6,3 +6,4 @@ pub mod Sides
 pub mod Handover
 pub mod Lending
 pub mod Writing
+pub mod Small

@@ -1,7 +1,10 @@
 //! A small device for the tests: registers and a bus master, without sectors. It never has words to move.
 
-ghost use Rattle.std.specs.Prelude.{◌≡◌, true, false, []};
-ghost use Rattle.ata_taskfile.specs.TaskFile.{is_of_bus};
+ghost use Rattle.std.specs.Prelude.{◌≡◌, true, false};
+ghost use Rattle.ata_taskfile.specs.TaskFile.{is_of_bus, line};
+ghost use Rattle.ata_taskfile.specs.Bus.{raised};
+ghost use Rattle.ata_taskfile.specs.Device.{after_write8};
+ghost use Rattle.port_lease.specs.Small.{device};
 ghost use Rattle.ata_taskfile.specs.Data.{is_given, is_wanted};
 ghost use Rattle.ata_taskfile.specs.Lawful.{IsLawfulState};
 
@@ -44,6 +47,7 @@ impl RegisterFile {
     pub(crate) fn end_command(&mut self) {
         if let Phase::Busy(..) = self.file.phase {
             let mut file = self.file;
+            self.bus.reset_in(file.phase);
             file.announce(Phase::Idle);
             self.put_file(file);
         }
@@ -54,8 +58,13 @@ impl RegisterFile {
         requires lawful { IsLawfulState file self.old.bus 0 1000 }
         requires unread { is_given file.phase ≡ false }
         requires unwritten { is_wanted file.phase ≡ false }
+        ensures file { self.new.file ≡ file }
+        ensures bus { self.new.bus ≡ raised (line self.old.file) (line file) self.old.bus }
     {
-        self.bus.note_line(self.file.line(), file.line());
+        let old = self.file;
+        let mut bus = self.bus;
+        bus.note_line(old.line(), file.line());
+        self.bus = bus;
         self.file = file;
     }
 }
@@ -63,7 +72,7 @@ impl RegisterFile {
 impl Ports for RegisterFile {
     ghost Rest = { Unit {0} };
 
-    ghost device = { λ r. record { file = r.file; bus = r.bus; block = []; cells = []; sectors = 1000 } };
+    ghost device = { λ r. device r.file r.bus };
 
     ghost rest = { λ r. tt };
 
@@ -117,6 +126,8 @@ impl Ports for RegisterFile {
 impl RegisterFile {
     fn write_file(&mut self, reg: Reg, v: u8)
         requires { is_of_bus reg ≡ false }
+        ensures { device self.new.file self.new.bus
+            ≡ after_write8 reg v (device self.old.file self.old.bus) }
     {
         let phase = self.file.phase;
         let mut file = self.file;

@@ -58,8 +58,18 @@ fn take_is_busy_with_bsy_or_dev_or_an_interrupt(rt: HostRuntime) {
         (&[(Reg::Device, 0x00)][..], false, 0x50, 0x00),
         (&[(Reg::Device, 0xef)], false, 0x50, 0xef),
         (&[(Reg::Device, 0x10)], true, 0x00, 0x10),
-        (&[(Reg::Device, 0xe0), (Reg::Status, 0x20)], true, 0x80, 0xe0),
-        (&[(Reg::Device, 0xe0), (Reg::Alternate, 0x04)], true, 0x80, 0xe0),
+        (
+            &[(Reg::Device, 0xe0), (Reg::Status, 0x20)],
+            true,
+            0x80,
+            0xe0,
+        ),
+        (
+            &[(Reg::Device, 0xe0), (Reg::Alternate, 0x04)],
+            true,
+            0x80,
+            0xe0,
+        ),
     ];
     for (writes, busy, status, shown) in cases {
         let mut device = device_with(writes);
@@ -85,9 +95,6 @@ fn write(side: &mut GuestSide, device: &mut RegisterFile, reg: Reg, v: u8)
     side.access(device, &Access::Write8(reg, v));
 }
 
-// The registers with two bytes, each in turn.
-const WIDE: [Reg; 4] = [Reg::Count, Reg::Low, Reg::Mid, Reg::High];
-
 #[test]
 fn take_puts_what_the_guest_reads_into_the_view(rt: HostRuntime) {
     let mut device = device_with(&[
@@ -111,15 +118,35 @@ fn take_puts_what_the_guest_reads_into_the_view(rt: HostRuntime) {
         Ok(side) => {
             // The current byte stands first. A reset left Error 01h, and the last write HOB and nIEN.
             let file = side.view().file;
-            assert_eq!(rt; (file.count, file.low), ([0x22, 0x21], [0x32, 0x31]));
-            assert_eq!(rt; (file.mid, file.high), ([0x42, 0x41], [0x52, 0x51]));
-            assert_eq!(rt; (file.features, file.device, file.control, file.error), (0x55, 0xe3, 0x82, 0x01));
-            assert_eq!(rt; (file.failed, file.pending, file.phase), (false, false, Phase::Idle));
+            let TaskFile {
+                count,
+                low,
+                mid,
+                high,
+                ..
+            } = file;
+            assert_eq!(rt; (count, low), ([0x22, 0x21], [0x32, 0x31]));
+            assert_eq!(rt; (mid, high), ([0x42, 0x41], [0x52, 0x51]));
+            assert_eq!(rt;
+                (file.features, file.device, file.control, file.error),
+                (0x55, 0xe3, 0x82, 0x01)
+            );
+            assert_eq!(rt;
+                (file.failed, file.pending, file.phase),
+                (false, false, Phase::Idle)
+            );
             side.end();
         }
     }
     // The device shows the previous bytes still.
-    assert_eq!(rt; WIDE.map(|reg| device.read8(reg)), [0x21, 0x31, 0x41, 0x51]);
+    for (reg, previous) in [
+        (Reg::Count, 0x21),
+        (Reg::Low, 0x31),
+        (Reg::Mid, 0x41),
+        (Reg::High, 0x51),
+    ] {
+        assert_eq!(rt; device.read8(reg), previous, "{reg:?}");
+    }
 }
 
 // READ SECTOR(S) EXT of sector 120h and one more, with HOB and nIEN at 1.
@@ -136,13 +163,16 @@ const READ: View = View {
         command: 0x24,
         failed: false,
         pending: false,
-        phase: Phase::Busy(Taken::Good(Request {
-            kind: Kind::Read,
-            form: Form::PioIn,
-            extended: true,
-            first: 0x120,
-            count: 2,
-        }), 0),
+        phase: Phase::Busy(
+            Taken::Good(Request {
+                kind: Kind::Read,
+                form: Form::PioIn,
+                extended: true,
+                first: 0x120,
+                count: 2,
+            }),
+            0,
+        ),
     },
     bus: Bus {
         start: false,
@@ -157,14 +187,21 @@ const READ: View = View {
 
 #[test]
 fn give_puts_the_view_and_the_command_into_the_device(rt: HostRuntime) {
-    let mut device = device_with(&[(Reg::Device, 0x0f), (Reg::Count, 0x99), (Reg::Alternate, 0x02)]);
+    let mut device = device_with(&[
+        (Reg::Device, 0x0f),
+        (Reg::Count, 0x99),
+        (Reg::Alternate, 0x02),
+    ]);
     assert!(rt; is_free(&mut device));
     let mut side = power_on();
     *side.view_mut() = READ;
     let side = give(side, &mut device, 0x24);
     assert_eq!(rt; device.file, READ.file);
     // The bus master is the view's, and the device's is as it was.
-    assert_eq!(rt; (side.view().bus.pointer, device.bus), (0x1000, Bus::power_on()));
+    assert_eq!(rt;
+        (side.view().bus.pointer, device.bus),
+        (0x1000, Bus::power_on())
+    );
     side.end();
 }
 
@@ -198,10 +235,22 @@ fn a_walk_goes_with_its_command(rt: HostRuntime) {
     *side.view_mut() = View { file, bus };
     let mut side = give(side, &mut device, 0x25);
     // The view's error bit isn't the device's, but the guest sees it, and clears it in both.
-    assert_eq!(rt; device.bus, Bus { error: false, ..bus });
-    assert_eq!(rt; side.access(&mut device, &Access::Read8(Reg::BusStatus)), Answer::Byte(0x03));
+    assert_eq!(rt;
+        device.bus,
+        Bus {
+            error: false,
+            ..bus
+        }
+    );
+    assert_eq!(rt;
+        side.access(&mut device, &Access::Read8(Reg::BusStatus)),
+        Answer::Byte(0x03)
+    );
     side.access(&mut device, &Access::Write8(Reg::BusStatus, 0x02));
-    assert_eq!(rt; side.access(&mut device, &Access::Read8(Reg::BusStatus)), Answer::Byte(0x01));
+    assert_eq!(rt;
+        side.access(&mut device, &Access::Read8(Reg::BusStatus)),
+        Answer::Byte(0x01)
+    );
     side.end();
 }
 
@@ -241,10 +290,19 @@ fn remove_is_unclean_with_error_01h(rt: HostRuntime) {
     device.write8(Reg::Status, 0xe7);
     device.end_command();
     assert_eq!(rt; is_removed(0x01, &mut device), false);
-    assert_eq!(rt; (device.read8(Reg::Count), device.file.pending), (0x77, true));
+    assert_eq!(rt;
+        (device.read8(Reg::Count), device.file.pending),
+        (0x77, true)
+    );
     // The view's registers go to the device, and what pends there is the monitor's own.
     assert_eq!(rt; is_removed(0x00, &mut device), true);
-    assert_eq!(rt; device.file, TaskFile { command: 0xe7, ..at_rest(0x00).file });
+    assert_eq!(rt;
+        device.file,
+        TaskFile {
+            command: 0xe7,
+            ..at_rest(0x00).file
+        }
+    );
     assert_eq!(rt; device.bus, READ.bus);
 }
 
@@ -254,15 +312,43 @@ fn what_cannot_be_read_is_kept(rt: HostRuntime) {
     // kept after it.
     let cases = [
         // In Idle all is taken, and makes HOB 0.
-        (&[(Reg::Alternate, 0x82)][..], (Reg::Error, 0x03), (0x03, 0x02)),
+        (
+            &[(Reg::Alternate, 0x82)][..],
+            (Reg::Error, 0x03),
+            (0x03, 0x02),
+        ),
         (&[(Reg::Alternate, 0x82)], (Reg::Low, 0x03), (0x00, 0x02)),
         // So with DEV at 1, where Status shows nothing.
-        (&[(Reg::Device, 0x10), (Reg::Alternate, 0x80)], (Reg::Error, 0x03), (0x03, 0x00)),
+        (
+            &[(Reg::Device, 0x10), (Reg::Alternate, 0x80)],
+            (Reg::Error, 0x03),
+            (0x03, 0x00),
+        ),
         // At work the device ignores it, and HOB stays.
-        (&[(Reg::Error, 0x02), (Reg::Status, 0x20), (Reg::Alternate, 0x82)], (Reg::Error, 0x03), (0x02, 0x82)),
-        (&[(Reg::Error, 0x02), (Reg::Status, 0x20), (Reg::Alternate, 0x82)], (Reg::Low, 0x03), (0x02, 0x82)),
+        (
+            &[
+                (Reg::Error, 0x02),
+                (Reg::Status, 0x20),
+                (Reg::Alternate, 0x82),
+            ],
+            (Reg::Error, 0x03),
+            (0x02, 0x82),
+        ),
+        (
+            &[
+                (Reg::Error, 0x02),
+                (Reg::Status, 0x20),
+                (Reg::Alternate, 0x82),
+            ],
+            (Reg::Low, 0x03),
+            (0x02, 0x82),
+        ),
         // Device Control is always taken, and a reset leaves Features 00h.
-        (&[(Reg::Error, 0x02), (Reg::Status, 0x20)], (Reg::Alternate, 0xff), (0x00, 0x86)),
+        (
+            &[(Reg::Error, 0x02), (Reg::Status, 0x20)],
+            (Reg::Alternate, 0xff),
+            (0x00, 0x86),
+        ),
         (&[(Reg::Error, 0x02)], (Reg::Alternate, 0xfb), (0x02, 0x82)),
     ];
     for (writes, (reg, v), kept) in cases {
@@ -270,7 +356,11 @@ fn what_cannot_be_read_is_kept(rt: HostRuntime) {
         let mut side = guest_of(&device);
         write(&mut side, &mut device, reg, v);
         let file = side.view().file;
-        assert_eq!(rt; (file.features, file.control), kept, "{writes:?} {reg:?} {v}");
+        assert_eq!(rt;
+            (file.features, file.control),
+            kept,
+            "{writes:?} {reg:?} {v}"
+        );
         side.end();
     }
 }
