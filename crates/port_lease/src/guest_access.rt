@@ -165,7 +165,7 @@ fn write_file<P: Ports>(kept: &mut TaskFile, ports: &mut P, reg: Reg, v: u8)
 
 // A reset leaves 00h in Features, and takes no other byte before it ends.
 fn keep_control(kept: &mut TaskFile, v: u8)
-    ensures { kept.new ≡ control_kept v kept.old }
+    ensures kept { kept.new ≡ control_kept v kept.old }
 {
     kept.control = v & (HOB | SRST | NIEN);
     if has_bit(SRST, v) {

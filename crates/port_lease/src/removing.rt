@@ -67,14 +67,14 @@ fn restore<P: Ports>(view: &View, ports: &mut P)
 }
 
 fn is_clean(view: &View, own: bool) -> bool
-    ensures { result ≡ is_clean view.now own }
+    ensures clean { result ≡ is_clean view.now own }
 {
     is_well(&view.file) && !view.file.pending && !view.bus.start && !view.bus.error && !own
 }
 
 // The view's Status is 50h and its Error 00h.
 fn is_well(file: &TaskFile) -> bool
-    ensures { result ≡ shows_well file.now }
+    ensures well { result ≡ shows_well file.now }
 {
     match file.phase {
         Phase::Idle => !file.failed && !has_bit(DEV, file.device) && file.error == 0,
