@@ -2,3 +2,5 @@ pub mod Bus
 pub mod Alike
 pub mod Plain
 pub mod Guest
+pub mod Steps
+pub mod Whole

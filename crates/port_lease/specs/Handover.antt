@@ -1,5 +1,5 @@
 -- What taking, giving and removing make of the drive and of the view.
-use Rattle.std.specs.Prelude.{◌≡◌, ℕ, Bool, not, ◌&&◌, ◌==◌, if◌then◌else◌, slice_index, List, [], ◌∷◌}
+use Rattle.std.specs.Prelude.{◌≡◌, ℕ, Bool, not, ◌&&◌, ◌==◌, if◌then◌else◌, slice_index, length, List, [], ◌∷◌}
 use Rattle.ata_taskfile.specs.declared.Phase.TheVariants.{Busy}
 use Rattle.ata_taskfile.specs.declared.task_file.TaskFile.{TaskFile}
 use Rattle.ata_taskfile.specs.declared.bus_master.Bus.{Bus}
@@ -13,6 +13,13 @@ use Rattle.port_lease.specs.View.{uses_bus}
 -- a two-byte register as it is read: its current byte, and its previous one
 abbrev pub both_bytes : List ℕ → List ℕ
 both_bytes bytes = slice_index bytes 0 ∷ slice_index bytes 1 ∷ []
+
+-- each two-byte register has two bytes
+pub record HasTwoBytes (f : TaskFile) : Type 0 where
+  pub count : length f.count ≡ 2
+  pub low : length f.low ≡ 2
+  pub mid : length f.mid ≡ 2
+  pub high : length f.high ≡ 2
 
 -- the byte that each two-byte register shows: Count, Low, Mid, High
 abbrev pub shown_bytes : TaskFile → List ℕ
