@@ -7,3 +7,27 @@
 mod job;
 
 pub use job::OwnJob;
+//! The monitor's own commands, by PIO, on a drive that it has: sectors read, sectors written, or a flush.
+//!
+//! Start with `OwnJob` for what a command is to do, then `own` for the calls. `specs/Job.antt` says what a job asks the
+//! drive for, and `specs/Running.antt` where the drive may stand with it; `docs/monitor.md` has the rules as tables.
+
+#![tactic(auto)]
+
+mod commands;
+mod job;
+mod own;
+
+pub use job::OwnJob;
+pub use own::Own;
+
+/// What a poll found.
+#[derive(Clone, Copy, Debug, PartialEq, Eq)]
+pub enum Poll {
+    /// The drive is at work.
+    Waiting,
+    /// A block of 256 words went, and the command goes on.
+    Moved,
+    Done,
+    Failed,
+}

@@ -1,0 +1,55 @@
+-- What an own command is to do.
+use Rattle.std.specs.Prelude.{ℕ, ◌+◌, ◌^◌, ◌<◌, ◌≤◌, false}
+use Rattle.ata_taskfile.specs.declared.Kind.TheVariants as kind
+use Rattle.ata_taskfile.specs.declared.Form.TheVariants.{NoMove, PioIn, PioOut}
+use Rattle.ata_taskfile.specs.declared.Request.{Request}
+use Rattle.ata_taskfile.specs.declared.Taken.{Taken}
+use Rattle.ata_taskfile.specs.Order.{taken, within}
+use Rattle.own_pio.specs.declared.job.OwnJob.{OwnJob}
+use Rattle.own_pio.specs.declared.job.OwnJob.TheVariants.{Read, Write, Flush}
+
+-- the first sector of a job; 0 of a flush
+abbrev pub first_of : OwnJob → ℕ
+first_of (Read first count) = first
+first_of (Write first count) = first
+first_of Flush = 0
+
+-- how many sectors a job moves
+abbrev pub count_of : OwnJob → ℕ
+count_of (Read first count) = count
+count_of (Write first count) = count
+count_of Flush = 0
+
+-- how many polls that aren't Waiting a job takes: one for each block, and one more where the drive is at work after the last (own)
+abbrev pub polls_of : OwnJob → ℕ
+polls_of (Read first count) = count
+polls_of (Write first count) = count + 1
+polls_of Flush = 1
+
+-- the command of a job: READ SECTOR(S), WRITE SECTOR(S), FLUSH CACHE (ATA/ATAPI-6)
+abbrev pub command_of : OwnJob → ℕ
+command_of (Read first count) = 32
+command_of (Write first count) = 48
+command_of Flush = 231
+
+-- what a job asks the drive for
+abbrev pub request_of : OwnJob → Request
+request_of (Read first count) = record { kind = kind.Read; form = PioIn; extended = false; first = first; count = count }
+request_of (Write first count) = record { kind = kind.Write; form = PioOut; extended = false; first = first; count = count }
+request_of Flush = record { kind = kind.Flush; form = NoMove; extended = false; first = 0; count = 0 }
+
+-- the order that a drive of so many sectors makes of it
+abbrev pub order_of : OwnJob → ℕ → Taken
+order_of job sectors = taken (within sectors (request_of job))
+
+-- sectors that a command of 28 bits can name, and no more than the monitor moves at once (own)
+pub record IsNamed (first count : ℕ) : Type 0 where
+  pub some : 0 < count
+  pub few : count ≤ 64
+  pub below : first + count ≤ 2 ^ 28
+
+-- a job as `begin` takes it
+abbrev pub IsFit : OwnJob → Type 0
+IsFit (Read first count) = IsNamed first count
+IsFit (Write first count) = IsNamed first count
+IsFit Flush = Unit {0}

@@ -1,0 +1,4 @@
+pub mod Job
+pub mod Own
+pub mod Running
+pub mod Named

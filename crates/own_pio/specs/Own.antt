@@ -1,0 +1,12 @@
+-- What contracts see of an own command.
+use Rattle.std.specs.Prelude.{ℕ}
+use Rattle.own_pio.specs.declared.job.OwnJob.{OwnJob}
+use Rattle.own_pio.specs.declared.own.Own.{Own}
+
+-- its job
+abbrev pub job_of : Own → OwnJob
+job_of own = own.job
+
+-- the polls that are left
+abbrev pub polls_left : Own → ℕ
+polls_left own = own.left
