@@ -1,1 +1,4 @@
 pub mod Named
+pub mod Bytes
+pub mod Words
+pub mod Written

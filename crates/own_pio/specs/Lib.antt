@@ -2,3 +2,4 @@ pub mod Job
 pub mod Own
 pub mod Running
 pub mod Named
+pub mod Moving

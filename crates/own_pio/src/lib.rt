@@ -16,6 +16,7 @@ pub use job::OwnJob;
 
 mod commands;
 mod job;
+mod moving;
 mod own;
 
 pub use job::OwnJob;
