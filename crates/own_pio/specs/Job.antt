@@ -1,5 +1,5 @@
 -- What an own command is to do.
-use Rattle.std.specs.Prelude.{ℕ, ◌+◌, ◌^◌, ◌<◌, ◌≤◌, false}
+use Rattle.std.specs.Prelude.{◌≡◌, ℕ, Bool, true, false, ◌+◌, ◌^◌, ◌<◌, ◌≤◌}
 use Rattle.ata_taskfile.specs.declared.Kind.TheVariants as kind
 use Rattle.ata_taskfile.specs.declared.Form.TheVariants.{NoMove, PioIn, PioOut}
 use Rattle.ata_taskfile.specs.declared.Request.{Request}
@@ -48,8 +48,14 @@ pub record IsNamed (first count : ℕ) : Type 0 where
   pub few : count ≤ 64
   pub below : first + count ≤ 2 ^ 28
 
+-- a job that moves sectors
+abbrev pub moves_blocks : OwnJob → Bool
+moves_blocks (Read first count) = true
+moves_blocks (Write first count) = true
+moves_blocks Flush = false
+
 -- a job as `begin` takes it
-abbrev pub IsFit : OwnJob → Type 0
-IsFit (Read first count) = IsNamed first count
-IsFit (Write first count) = IsNamed first count
-IsFit Flush = Unit {0}
+pub record IsFit (job : OwnJob) : Type 0 where
+  pub some : moves_blocks job ≡ true → 0 < count_of job
+  pub few : count_of job ≤ 64
+  pub below : first_of job + count_of job ≤ 2 ^ 28

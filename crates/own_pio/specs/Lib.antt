@@ -3,3 +3,4 @@ pub mod Own
 pub mod Running
 pub mod Named
 pub mod Moving
+pub mod Poll

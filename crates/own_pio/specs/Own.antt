@@ -2,6 +2,7 @@
 use Rattle.std.specs.Prelude.{ℕ}
 use Rattle.own_pio.specs.declared.job.OwnJob.{OwnJob}
 use Rattle.own_pio.specs.declared.own.Own.{Own}
+use Rattle.own_pio.specs.Poll.{done_by}
 
 -- its job
 abbrev pub job_of : Own → OwnJob
@@ -10,3 +11,7 @@ job_of own = own.job
 -- the polls that are left
 abbrev pub polls_left : Own → ℕ
 polls_left own = own.left
+
+-- the blocks that went
+abbrev pub done_of : Own → ℕ
+done_of own = done_by own.job own.left

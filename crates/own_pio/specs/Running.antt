@@ -1,17 +1,17 @@
 -- A drive with an own command.
-use Rattle.std.specs.Prelude.{◌≡◌, ℕ, Bool, true, false, ◌||◌, ◌==◌, ◌+◌, [], slice_index, ◌∷◌, List}
+use Rattle.std.specs.Prelude.{◌≡◌, ℕ, Bool, true, false, ◌||◌, ◌==◌, ◌+◌, ◌<◌, [], slice_index, ◌∷◌, List}
 use Rattle.ata_taskfile.specs.declared.registers.TheConstants.{DEV}
 use Rattle.ata_taskfile.specs.declared.Taken.TheVariants.{Good}
 use Rattle.ata_taskfile.specs.declared.Taken.{Taken}
 use Rattle.ata_taskfile.specs.declared.Phase.{Phase}
 use Rattle.ata_taskfile.specs.declared.Phase.TheVariants.{Reset, Idle, Busy, Ready}
 use Rattle.ata_taskfile.specs.declared.task_file.TaskFile.{TaskFile}
-use Rattle.ata_taskfile.specs.TaskFile.{has_bit}
+use Rattle.ata_taskfile.specs.TaskFile.{has_bit, line}
 use Rattle.ata_taskfile.specs.Device.{Device}
 use Rattle.plain_drive.specs.Plain.{sector_value, words_of}
 use Rattle.own_pio.specs.declared.job.OwnJob.{OwnJob}
 use Rattle.own_pio.specs.declared.job.OwnJob.TheVariants.{Read, Write, Flush}
-use Rattle.own_pio.specs.Job.{order_of, request_of, command_of}
+use Rattle.own_pio.specs.Job.{moves_blocks, count_of, order_of, request_of, command_of}
 
 -- a job of which so many blocks went has come to its end where the drive is idle: a read ends with its last block, in the poll that takes it
 abbrev pub may_end : OwnJob → ℕ → Bool
@@ -27,7 +27,10 @@ words_for Flush done d = []
 
 -- a block of a job waits in Data, or is wanted there
 pub record IsOffered (job : OwnJob) (done : ℕ) (order : Taken) (position left : ℕ) (d : Device) : Type 0 where
-  pub order_is : order ≡ Good (request_of job)
+  pub moves : moves_blocks job ≡ true
+  pub below : done < count_of job
+  pub order_is : order ≡ order_of job d.sectors
+  pub good : order ≡ Good (request_of job)
   pub position_is : position ≡ done
   pub whole : left ≡ 256
   pub block : d.block ≡ words_for job done d
@@ -59,5 +62,12 @@ pub record IsBegun (job : OwnJob) (old new : Device) : Type 0 where
   pub unpended : new.file.pending ≡ false
   pub bus : new.bus ≡ old.bus
   pub block : new.block ≡ old.block
+  pub cells : new.cells ≡ old.cells
+  pub sectors : new.sectors ≡ old.sectors
+
+-- the guest sees nothing of what the monitor did: line and bus master are as they were, and so are the sectors
+pub record IsUnseen (old new : Device) : Type 0 where
+  pub line : line new.file ≡ line old.file
+  pub bus : new.bus ≡ old.bus
   pub cells : new.cells ≡ old.cells
   pub sectors : new.sectors ≡ old.sectors

@@ -18,6 +18,7 @@ mod commands;
 mod job;
 mod moving;
 mod own;
+mod polling;
 
 pub use job::OwnJob;
 pub use own::Own;

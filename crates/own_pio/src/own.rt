@@ -1,27 +1,34 @@
 //! An own command, from its begin to its end.
 
-ghost use Rattle.std.specs.Prelude.{◌≡◌, true, false};
-ghost use Rattle.ata_taskfile.specs.declared.Phase.TheVariants.{Busy};
-ghost use Rattle.ata_taskfile.specs.Device.{line_read};
-ghost use Rattle.port_lease.specs.Free.{is_free};
-ghost use Rattle.port_lease.specs.Sides.{view_held, has_own};
-ghost use Rattle.own_pio.specs.Job.{IsFit, command_of, order_of, polls_of};
-ghost use Rattle.own_pio.specs.Own.{job_of, polls_left};
-ghost use Rattle.own_pio.specs.Running.{IsRunning};
+ghost use Rattle.std.specs.Prelude.{◌≤◌};
+ghost use Rattle.own_pio.specs.Job.{IsFit, polls_of};
 
-use crate::OwnJob;
 use crate::commands::write_command;
+use crate::polling::{go, left_after, mark};
+use crate::{OwnJob, Poll};
 use ata_taskfile::Ports;
 use port_lease::MonitorSide;
 
 /// An own command that was begun, with the polls that are left.
-#[derive(Debug, Drop, PartialEq, Eq)]
+#[derive(Drop)]
 pub struct Own {
     pub(crate) job: OwnJob,
     pub(crate) left: u32,
+    ghost fit: { IsFit job },
+    ghost within: { left ≤ polls_of job },
 }
 
 impl Own {
+    ghost use Rattle.std.specs.Prelude.{◌≡◌, ◌<◌, ◌*◌, ◌&&◌, true, false, length};
+    ghost use Rattle.ata_taskfile.specs.declared.Phase.TheVariants.{Busy};
+    ghost use Rattle.ata_taskfile.specs.Device.{line_read};
+    ghost use Rattle.port_lease.specs.Free.{is_free};
+    ghost use Rattle.port_lease.specs.Sides.{view_held, has_own};
+    ghost use Rattle.own_pio.specs.Job.{count_of, command_of, order_of};
+    ghost use Rattle.own_pio.specs.Own.{job_of, polls_left, done_of};
+    ghost use Rattle.own_pio.specs.Running.{IsRunning};
+    ghost use Rattle.own_pio.specs.Poll.{answer_of, goes_on, left_after, bytes_after, block_after};
+
     /// Begins a job on a free drive, with nIEN at 1, so that the guest sees nothing of it.
     pub fn begin<P: Ports>(side: &mut MonitorSide, ports: &mut P, job: OwnJob) -> Own
         requires alone { has_own side.old ≡ false }
@@ -50,5 +57,45 @@ impl Own {
             job,
             left: job.polls(),
         }
+    }
+
+    /// Polls the command, which hasn't ended: by Status, which acknowledges its interrupt, and where a block waits or
+    /// is wanted, by moving it. `bytes` are the job's, 512 for each sector; those of a flush are none.
+    pub fn poll<P: Ports>(
+        &mut self,
+        side: &mut MonitorSide,
+        ports: &mut P,
+        bytes: &mut [u8],
+    ) -> Poll
+        requires stands { 0 < polls_left self.old }
+        requires runs { IsRunning (job_of self.old) (done_of self.old) (P.device ports.old) }
+        requires bytes { length bytes.old ≡ 512 * count_of (job_of self.old) }
+
+        ensures answer { result ≡ answer_of (job_of self.old) (polls_left self.old) (P.device ports.old).file }
+        ensures left { polls_left self.new ≡ left_after result (polls_left self.old) }
+        ensures job { job_of self.new ≡ job_of self.old }
+        ensures bytes { bytes.new
+            ≡ bytes_after (job_of self.old) result (done_of self.old) (P.device ports.old) bytes.old }
+        ensures block { (P.device ports.new).block
+            ≡ block_after (job_of self.old) result (done_of self.old) bytes.old (P.device ports.old).block }
+
+        // It still runs, or the drive is free.
+        ensures runs { goes_on result ≡ true
+            → IsRunning (job_of self.new) (done_of self.new) (P.device ports.new) }
+        ensures free { goes_on result ≡ false → is_free (P.device ports.new).file ≡ true }
+        ensures own { has_own side.new ≡ (goes_on result && has_own side.old) }
+
+        // The guest sees nothing of it, and no sector changes but by the drive's own steps.
+        ensures view { view_held side.new ≡ view_held side.old }
+        ensures line { line_read (P.device ports.new) ≡ line_read (P.device ports.old) }
+        ensures bus { (P.device ports.new).bus ≡ (P.device ports.old).bus }
+        ensures cells { (P.device ports.new).cells ≡ (P.device ports.old).cells }
+        ensures sectors { (P.device ports.new).sectors ≡ (P.device ports.old).sectors }
+        ensures rest { P.rest ports.new ≡ P.rest ports.old }
+    {
+        let poll = go(self.job, self.left, ports, bytes);
+        self.left = left_after(poll, self.left);
+        mark(side, poll);
+        poll
     }
 }
