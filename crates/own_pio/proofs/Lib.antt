@@ -2,3 +2,4 @@ pub mod Named
 pub mod Bytes
 pub mod Words
 pub mod Written
+pub mod Steps

@@ -4,3 +4,4 @@ pub mod Running
 pub mod Named
 pub mod Moving
 pub mod Poll
+pub mod Kept

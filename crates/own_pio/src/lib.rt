@@ -16,11 +16,13 @@ pub use job::OwnJob;
 
 mod commands;
 mod job;
+mod laws;
 mod moving;
 mod own;
 mod polling;
 
 pub use job::OwnJob;
+pub use laws::steps_keep_running;
 pub use own::Own;
 
 /// What a poll found.

@@ -1,0 +1,85 @@
+-- What the drive's steps make of an own command.
+use Rattle.std.proofs.Common.{◌≡◌, ℕ, Bool, true, false, not, ◌||◌, ◌==◌, ◌+◌, ◌-◌, ◌*◌, ◌<◌, ◌≤◌, if◌then◌else◌, nat_lt, List, bit_and, bit_or, refl, sym, ap, subst, ◌∙◌, arith}
+use Rattle.std.proofs.lemmas.Nat.{and_assoc, and_or_apart, and_mask}
+use Rattle.ata_taskfile.specs.declared.Form.{Form}
+use Rattle.ata_taskfile.specs.declared.Refused.{Refused}
+use Rattle.ata_taskfile.specs.declared.Request.{Request}
+use Rattle.ata_taskfile.specs.declared.Taken.{Taken}
+use Rattle.ata_taskfile.specs.declared.Taken.TheVariants.{Good, Bad}
+use Rattle.ata_taskfile.specs.declared.Phase.{Phase}
+use Rattle.ata_taskfile.specs.declared.Phase.TheVariants.{Reset, Idle, Busy, Ready}
+use Rattle.ata_taskfile.specs.declared.Step.{Step}
+use Rattle.ata_taskfile.specs.declared.Step.TheVariants as step
+use Rattle.ata_taskfile.specs.declared.registers.TheConstants.{DEV}
+use Rattle.ata_taskfile.specs.TaskFile.{has_bit, byte_at}
+use Rattle.ata_taskfile.specs.Lawful.{IsLawful}
+use Rattle.plain_drive.specs.Plain.{Plain}
+use Rattle.plain_drive.specs.Step.{stepped, failed_step, step_made}
+use Rattle.own_pio.specs.declared.job.OwnJob.{OwnJob}
+use Rattle.own_pio.specs.declared.job.OwnJob.TheVariants.{Read, Write, Flush}
+use Rattle.own_pio.specs.Job.{IsFit, request_of, order_of}
+use Rattle.own_pio.specs.Running.{IsRunning, StandsIn, IsAtWork}
+
+-- an order of a job that isn't refused is its request
+good_order : (job : OwnJob) (order : Request) (sectors : ℕ) → Good order ≡ order_of job sectors → Good order ≡ Good (request_of job)
+good_order job order sectors e = grind arith
+
+-- DEV stays where an address comes into Device
+dev_kept : (device b : ℕ) → has_bit DEV device ≡ false → has_bit DEV (bit_or (bit_and device 240) (bit_and b 15)) ≡ false
+dev_kept device b e =
+    let none : bit_and (bit_and b 15) 16 ≡ 0 = and_assoc 16 b 15 ∙ and_mask b 0 ∙ omega arith in
+    let same : bit_and (bit_or (bit_and device 240) (bit_and b 15)) 16 ≡ bit_and device 16 = and_or_apart 16 (bit_and device 240) (bit_and b 15) none ∙ and_assoc 16 device 240 in
+    ap (λ n. not (n == 0)) same ∙ e
+
+-- where the drive stands, by its phase
+stands_at : (job : OwnJob) (done : ℕ) (phase : Phase) (p : Plain) → p.device.file.phase ≡ phase → IsRunning job done p.device → StandsIn phase job done p.device
+stands_at job done phase p e r = let P : Phase → Type 0 = λ x. StandsIn x job done p.device in subst P e r.stands
+
+-- a step of each kind of job
+read_running : (first count done : ℕ) (order : Request) (position : ℕ) (p : Plain) → IsFit (Read first count) → p.device.file.phase ≡ Busy (Good order) position → IsLawful p.device
+    → IsRunning (Read first count) done p.device → IsRunning (Read first count) done (stepped (Busy (Good order) position) p).device
+read_running first count done order position p fit e l r =
+    let s = stands_at (Read first count) done (Busy (Good order) position) p e r in
+    let is = good_order (Read first count) order p.device.sectors s.order_is in
+    grind (arith, s, is)
+
+write_running : (first count done : ℕ) (order : Request) (position : ℕ) (p : Plain) → IsFit (Write first count) → p.device.file.phase ≡ Busy (Good order) position → IsLawful p.device
+    → IsRunning (Write first count) done p.device → IsRunning (Write first count) done (stepped (Busy (Good order) position) p).device
+write_running first count done order position p fit e l r =
+    let s = stands_at (Write first count) done (Busy (Good order) position) p e r in
+    let is = good_order (Write first count) order p.device.sectors s.order_is in
+    grind (arith, s, is)
+
+flush_running : (done : ℕ) (order : Request) (position : ℕ) (p : Plain) → p.device.file.phase ≡ Busy (Good order) position
+    → IsRunning Flush done p.device → IsRunning Flush done (stepped (Busy (Good order) position) p).device
+flush_running done order position p e r =
+    let s = stands_at Flush done (Busy (Good order) position) p e r in
+    let is = good_order Flush order p.device.sectors s.order_is in
+    grind (arith, s, is)
+
+-- a step that fails
+failed_running : (job : OwnJob) (done : ℕ) (order : Request) (position : ℕ) (p : Plain) → IsRunning job done p.device → IsRunning job done (failed_step (Busy (Good order) position) p).device
+failed_running job done order position p r = grind (arith, dev_kept)
+
+refused_running : (job : OwnJob) (done : ℕ) (reason : Refused) (position : ℕ) (p : Plain) → IsRunning job done p.device → IsRunning job done (failed_step (Busy (Bad reason) position) p).device
+refused_running job done reason position p r = grind arith
+
+good_running : (job : OwnJob) (done : ℕ) (phase : Phase) (p : Plain) → IsFit job → p.device.file.phase ≡ phase → IsLawful p.device → IsRunning job done p.device → IsRunning job done (stepped phase p).device
+good_running job done Reset p fit e l r = absurd (stands_at job done Reset p e r)
+good_running job done Idle p fit e l r = r
+good_running job done (Ready taken position left) p fit e l r = r
+good_running job done (Busy (Bad reason) position) p fit e l r = refused_running job done reason position p r
+good_running (Read first count) done (Busy (Good order) position) p fit e l r = read_running first count done order position p fit e l r
+good_running (Write first count) done (Busy (Good order) position) p fit e l r = write_running first count done order position p fit e l r
+good_running Flush done (Busy (Good order) position) p fit e l r = flush_running done order position p e r
+
+bad_running : (job : OwnJob) (done : ℕ) (phase : Phase) (p : Plain) → p.device.file.phase ≡ phase → IsRunning job done p.device → IsRunning job done (failed_step phase p).device
+bad_running job done Reset p e r = r
+bad_running job done Idle p e r = r
+bad_running job done (Ready taken position left) p e r = r
+bad_running job done (Busy (Bad reason) position) p e r = refused_running job done reason position p r
+bad_running job done (Busy (Good order) position) p e r = failed_running job done order position p r
+
+pub step_running : (job : OwnJob) (done : ℕ) (s : Step) (p : Plain) → IsFit job → IsLawful p.device → IsRunning job done p.device → IsRunning job done (step_made s p).device
+step_running job done step.Good p fit l r = good_running job done p.device.file.phase p fit refl l r
+step_running job done step.Bad p fit l r = bad_running job done p.device.file.phase p refl r
