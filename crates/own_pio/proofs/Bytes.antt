@@ -5,7 +5,6 @@ use Rattle.std.proofs.Math.ListN.{set}
 use Rattle.plain_drive.specs.Words.{bytes_of}
 use Rattle.own_pio.specs.Moving.{put_over}
 
-
 -- no byte yet
 pub over_none : (n : ℕ) (ys : List ℕ) → put_over n [] ys ≡ ys
 over_none n [] = refl

@@ -3,3 +3,4 @@ pub mod Bytes
 pub mod Words
 pub mod Written
 pub mod Steps
+pub mod Stored

@@ -1,12 +1,12 @@
 -- The order over registers that name sectors.
-use Rattle.std.proofs.Common.{◌≡◌, ℕ, Bool, true, false, not, ◌==◌, ◌+◌, ◌*◌, ◌/◌, ◌%◌, ◌^◌, ◌<◌, ◌≤◌, bit_and, refl, sym, ap, ◌∙◌, lit<, arith}
+use Rattle.std.proofs.Common.{◌≡◌, ℕ, true, false, not, ◌==◌, ◌+◌, ◌*◌, ◌/◌, ◌%◌, ◌^◌, ◌<◌, bit_and, refl, ap, ◌∙◌, lit<, arith}
 use Rattle.std.proofs.lemmas.Nat.{and_block, and_mask}
 use Rattle.ata_taskfile.specs.declared.registers.TheConstants.{LBA, DEV}
 use Rattle.ata_taskfile.specs.declared.task_file.TaskFile.{TaskFile}
 use Rattle.ata_taskfile.specs.TaskFile.{has_bit}
-use Rattle.ata_taskfile.specs.Order.{inputs, taken, first_28, count_8} 
+use Rattle.ata_taskfile.specs.Order.{inputs, taken, first_28, count_8}
 use Rattle.ata_taskfile.specs.Order as order
-use Rattle.own_pio.specs.declared.job.OwnJob.TheVariants.{Read, Write, Flush}
+use Rattle.own_pio.specs.declared.job.OwnJob.TheVariants.{Read, Write}
 use Rattle.own_pio.specs.Job.{IsNamed, order_of}
 use Rattle.own_pio.specs.Named.{named}
 

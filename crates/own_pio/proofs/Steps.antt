@@ -1,27 +1,25 @@
 -- What the drive's steps make of an own command.
-use Rattle.std.proofs.Common.{◌≡◌, ℕ, Bool, true, false, not, ◌||◌, ◌==◌, ◌+◌, ◌-◌, ◌*◌, ◌<◌, ◌≤◌, if◌then◌else◌, nat_lt, List, bit_and, bit_or, refl, sym, ap, subst, ◌∙◌, arith}
+use Rattle.std.proofs.Common.{◌≡◌, ℕ, false, not, ◌==◌, bit_and, bit_or, refl, ap, subst, ◌∙◌, arith}
 use Rattle.std.proofs.lemmas.Nat.{and_assoc, and_or_apart, and_mask}
-use Rattle.ata_taskfile.specs.declared.Form.{Form}
 use Rattle.ata_taskfile.specs.declared.Refused.{Refused}
 use Rattle.ata_taskfile.specs.declared.Request.{Request}
-use Rattle.ata_taskfile.specs.declared.Taken.{Taken}
 use Rattle.ata_taskfile.specs.declared.Taken.TheVariants.{Good, Bad}
 use Rattle.ata_taskfile.specs.declared.Phase.{Phase}
 use Rattle.ata_taskfile.specs.declared.Phase.TheVariants.{Reset, Idle, Busy, Ready}
 use Rattle.ata_taskfile.specs.declared.Step.{Step}
 use Rattle.ata_taskfile.specs.declared.Step.TheVariants as step
 use Rattle.ata_taskfile.specs.declared.registers.TheConstants.{DEV}
-use Rattle.ata_taskfile.specs.TaskFile.{has_bit, byte_at}
+use Rattle.ata_taskfile.specs.TaskFile.{has_bit}
 use Rattle.ata_taskfile.specs.Lawful.{IsLawful}
 use Rattle.plain_drive.specs.Plain.{Plain}
 use Rattle.plain_drive.specs.Step.{stepped, failed_step, step_made}
 use Rattle.own_pio.specs.declared.job.OwnJob.{OwnJob}
 use Rattle.own_pio.specs.declared.job.OwnJob.TheVariants.{Read, Write, Flush}
 use Rattle.own_pio.specs.Job.{IsFit, request_of, order_of}
-use Rattle.own_pio.specs.Running.{IsRunning, StandsIn, IsAtWork}
+use Rattle.own_pio.specs.Running.{IsRunning, StandsIn}
 
 -- an order of a job that isn't refused is its request
-good_order : (job : OwnJob) (order : Request) (sectors : ℕ) → Good order ≡ order_of job sectors → Good order ≡ Good (request_of job)
+pub good_order : (job : OwnJob) (order : Request) (sectors : ℕ) → Good order ≡ order_of job sectors → Good order ≡ Good (request_of job)
 good_order job order sectors e = grind arith
 
 -- DEV stays where an address comes into Device
@@ -32,7 +30,7 @@ dev_kept device b e =
     ap (λ n. not (n == 0)) same ∙ e
 
 -- where the drive stands, by its phase
-stands_at : (job : OwnJob) (done : ℕ) (phase : Phase) (p : Plain) → p.device.file.phase ≡ phase → IsRunning job done p.device → StandsIn phase job done p.device
+pub stands_at : (job : OwnJob) (done : ℕ) (phase : Phase) (p : Plain) → p.device.file.phase ≡ phase → IsRunning job done p.device → StandsIn phase job done p.device
 stands_at job done phase p e r = let P : Phase → Type 0 = λ x. StandsIn x job done p.device in subst P e r.stands
 
 -- a step of each kind of job

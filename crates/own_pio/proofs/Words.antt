@@ -1,5 +1,5 @@
 -- A block read word by word.
-use Rattle.std.proofs.Common.{◌≡◌, ℕ, ◌+◌, ◌-◌, ◌<◌, ◌≤◌, List, length, zero, suc, true, get_or, refl, sym, ap, ◌∙◌, arith}
+use Rattle.std.proofs.Common.{◌≡◌, ℕ, ◌+◌, ◌-◌, ◌<◌, List, zero, suc, true, get_or, sym, ap, ◌∙◌, arith}
 use Rattle.ata_taskfile.specs.declared.Phase.{Phase}
 use Rattle.ata_taskfile.specs.Data.{is_given, left_in, word_in, phase_after_read}
 use Rattle.ata_taskfile.specs.Device.{Device, with_phase, word_read, after_read_word}

@@ -1,13 +1,17 @@
 -- What an own command makes of the sectors, by where it stands.
-use Rattle.std.specs.Prelude.{◌≡◌, ℕ, Bool, true, false, not, ◌&&◌, ◌==◌, ◌+◌, ◌-◌, ◌*◌, zero, suc, List}
+use Rattle.std.specs.Prelude.{◌≡◌, ℕ, Bool, true, false, not, ◌==◌, ◌+◌, ◌-◌, ◌*◌, zero, suc, List, [], slice_index_or}
 use Rattle.ata_taskfile.specs.declared.Phase.{Phase}
 use Rattle.ata_taskfile.specs.declared.Phase.TheVariants.{Reset, Idle, Busy, Ready}
 use Rattle.ata_taskfile.specs.Device.{Device, Cell}
-use Rattle.plain_drive.specs.Plain.{appended, all_flushed}
+use Rattle.plain_drive.specs.Plain.{appended, all_flushed, current, settled, words_of}
 use Rattle.plain_drive.specs.Words.{bytes_of}
 use Rattle.own_pio.specs.declared.job.OwnJob.{OwnJob}
 use Rattle.own_pio.specs.declared.job.OwnJob.TheVariants.{Read, Write, Flush}
-use Rattle.own_pio.specs.Moving.{words_at}
+use Rattle.own_pio.specs.declared.Poll.{Poll}
+use Rattle.own_pio.specs.declared.Poll.TheVariants.{Waiting, Moved, Done, Failed}
+use Rattle.own_pio.specs.Job.{count_of}
+use Rattle.own_pio.specs.Moving.{put_over, words_at}
+use Rattle.own_pio.specs.Poll.{done_by}
 
 -- a store after so many sectors of the bytes were written to it, from the first one on
 abbrev pub written_over : ℕ → ℕ → List ℕ → List Cell → List Cell
@@ -45,7 +49,46 @@ holds_block (Busy order position) (Write first count) done = not (done == 0)
 holds_block (Busy order position) Flush done = false
 holds_block (Ready order position left) job done = false
 
--- the sectors are what a job of which so many blocks went makes of them, and the last block that went is the drive's
-pub record IsKept (job : OwnJob) (done : ℕ) (bytes : List ℕ) (origin : List Cell) (d : Device) : Type 0 where
+-- the current value of a sector of a store
+abbrev pub value_in : ℕ → List Cell → List ℕ
+value_in s cells = current (slice_index_or cells s (settled []))
+
+-- bytes after so many sectors of a store were read into them, from the first one on
+abbrev pub read_over : ℕ → ℕ → List Cell → List ℕ → List ℕ
+read_over first zero cells bytes = bytes
+read_over first (suc n) cells bytes = put_over (512 * n) (bytes_of (words_of (value_in (first + n) cells))) (read_over first n cells bytes)
+
+-- the bytes of a job of which so many blocks went, by those at its begin
+abbrev pub bytes_in : OwnJob → ℕ → List Cell → List ℕ → List ℕ
+bytes_in (Read first count) done cells bytes = read_over first done cells bytes
+bytes_in (Write first count) done cells bytes = bytes
+bytes_in Flush done cells bytes = bytes
+
+-- the sectors and the bytes are what a job of which so many blocks went makes of them, and the last block that went is the drive's
+pub record IsKept (job : OwnJob) (done : ℕ) (bytes start : List ℕ) (origin : List Cell) (d : Device) : Type 0 where
   pub cells : d.cells ≡ cells_in d.file.phase d.file.failed job done bytes origin
   pub block : holds_block d.file.phase job done ≡ true → d.block ≡ words_at 256 (512 * (done - 1)) bytes
+  pub bytes_are : bytes ≡ bytes_in job done origin start
+
+-- the store of a job that is done
+abbrev pub cells_done : OwnJob → List ℕ → List Cell → List Cell
+cells_done (Read first count) bytes origin = origin
+cells_done (Write first count) bytes origin = written_over first count bytes origin
+cells_done Flush bytes origin = all_flushed origin
+
+-- a job that is done: all its sectors were read, written or made durable
+pub record IsDone (job : OwnJob) (bytes start : List ℕ) (origin : List Cell) (d : Device) : Type 0 where
+  pub cells : d.cells ≡ cells_done job bytes origin
+  pub bytes_are : bytes ≡ bytes_in job (count_of job) origin start
+
+-- a job that failed: each sector of a write is old or new, and no other changed
+pub record IsFailed (job : OwnJob) (done : ℕ) (bytes start : List ℕ) (origin : List Cell) (d : Device) : Type 0 where
+  pub cells : d.cells ≡ cells_in Idle true job done bytes origin
+  pub bytes_are : bytes ≡ bytes_in job done origin start
+
+-- what a poll that answers so leaves, of a job with so many polls left before it
+abbrev pub Leaves : Poll → OwnJob → ℕ → List ℕ → List ℕ → List Cell → Device → Type 0
+Leaves Waiting job left bytes start origin d = IsKept job (done_by job left) bytes start origin d
+Leaves Moved job left bytes start origin d = IsKept job (done_by job (left - 1)) bytes start origin d
+Leaves Done job left bytes start origin d = IsDone job bytes start origin d
+Leaves Failed job left bytes start origin d = IsFailed job (done_by job left) bytes start origin d

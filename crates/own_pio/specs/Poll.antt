@@ -11,7 +11,7 @@ use Rattle.own_pio.specs.declared.job.OwnJob.TheVariants.{Read, Write, Flush}
 use Rattle.own_pio.specs.declared.Poll.{Poll}
 use Rattle.own_pio.specs.declared.Poll.TheVariants.{Waiting, Moved, Done, Failed}
 use Rattle.own_pio.specs.Job.{polls_of}
-use Rattle.own_pio.specs.Moving.{put_over, words_at}
+use Rattle.own_pio.specs.Moving.{put_over}
 
 -- how many blocks of a job went, by the polls that are left
 abbrev pub done_by : OwnJob → ℕ → ℕ
@@ -61,16 +61,3 @@ abbrev pub bytes_after : OwnJob → Poll → ℕ → Device → List ℕ → Lis
 bytes_after (Read first count) poll done d bytes = bytes_read poll first done d bytes
 bytes_after (Write first count) poll done d bytes = bytes
 bytes_after Flush poll done d bytes = bytes
-
--- the block in transfer of a write after a poll: one that went is of the bytes at its place
-abbrev pub block_written : Poll → ℕ → List ℕ → List ℕ → List ℕ
-block_written Waiting done bytes block = block
-block_written Moved done bytes block = words_at 256 (512 * done) bytes
-block_written Done done bytes block = block
-block_written Failed done bytes block = block
-
--- the block in transfer of a job after a poll
-abbrev pub block_after : OwnJob → Poll → ℕ → List ℕ → List ℕ → List ℕ
-block_after (Read first count) poll done bytes block = block
-block_after (Write first count) poll done bytes block = block_written poll done bytes block
-block_after Flush poll done bytes block = block

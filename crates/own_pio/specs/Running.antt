@@ -1,11 +1,10 @@
 -- A drive with an own command.
-use Rattle.std.specs.Prelude.{◌≡◌, ℕ, Bool, true, false, ◌||◌, ◌==◌, ◌+◌, ◌<◌, [], slice_index, ◌∷◌, List}
+use Rattle.std.specs.Prelude.{◌≡◌, ℕ, Bool, true, false, ◌||◌, ◌==◌, ◌+◌, ◌<◌, [], List}
 use Rattle.ata_taskfile.specs.declared.registers.TheConstants.{DEV}
 use Rattle.ata_taskfile.specs.declared.Taken.TheVariants.{Good}
 use Rattle.ata_taskfile.specs.declared.Taken.{Taken}
 use Rattle.ata_taskfile.specs.declared.Phase.{Phase}
 use Rattle.ata_taskfile.specs.declared.Phase.TheVariants.{Reset, Idle, Busy, Ready}
-use Rattle.ata_taskfile.specs.declared.task_file.TaskFile.{TaskFile}
 use Rattle.ata_taskfile.specs.TaskFile.{has_bit, line}
 use Rattle.ata_taskfile.specs.Device.{Device}
 use Rattle.plain_drive.specs.Plain.{sector_value, words_of}

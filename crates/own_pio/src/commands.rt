@@ -107,9 +107,14 @@ fn put<P: Ports>(ports: &mut P, reg: Reg, v: u8)
 fn put_command<P: Ports>(ports: &mut P, command: u8)
     requires masked { IsMasked (P.device ports.old).file }
     requires selected { has_bit 16 (P.device ports.old).file.device ≡ false }
-    ensures taken { let d = P.device ports.old in P.device ports.new ≡ record d { file = record d.file {
-        command = command; error = 0; failed = false;
-        phase = Busy (taken (order.order_of command (inputs d.file) d.sectors)) 0 } } }
+    ensures taken { let d = P.device ports.old in P.device ports.new ≡ record d {
+      file = record d.file {
+        command = command;
+        error = 0;
+        failed = false;
+        phase = Busy (taken (order.order_of command (inputs d.file) d.sectors)) 0;
+      };
+    } }
     ensures rest { P.rest ports.new ≡ P.rest ports.old }
 {
     ports.write8(Reg::Status, command);

@@ -9,9 +9,18 @@ ghost use Rattle.plain_drive.specs.Step.{step_made};
 ghost use Rattle.own_pio.specs.declared.job.OwnJob.{OwnJob as JobOf};
 ghost use Rattle.own_pio.specs.Job.{IsFit};
 ghost use Rattle.own_pio.specs.Running.{IsRunning};
+ghost use Rattle.own_pio.specs.Kept.{IsKept};
 
 /// Every step, good or failing, leaves an own command running, or ended for the next poll to find.
 pub fn steps_keep_running()
     ensures { (job : JobOf) (done : ℕ) (step : StepOf) (p : Plain) → IsFit job → IsLawful p.device
         → IsRunning job done p.device → IsRunning job done (step_made step p).device }
+{}
+
+/// And every step leaves the sectors what the job makes of them, as far as it has come: a write's are its bytes one
+/// after the other, a flush's are durable, and any other sector is as it was at the begin.
+pub fn steps_keep_what_was_done()
+    ensures { (job : JobOf) (done : ℕ) (bytes start : List ℕ) (origin : List Cell) (step : StepOf) (p : Plain)
+        → IsLawful p.device → IsRunning job done p.device → IsKept job done bytes start origin p.device
+        → IsKept job done bytes start origin (step_made step p).device }
 {}

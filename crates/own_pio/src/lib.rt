@@ -22,7 +22,7 @@ mod own;
 mod polling;
 
 pub use job::OwnJob;
-pub use laws::steps_keep_running;
+pub use laws::{steps_keep_running, steps_keep_what_was_done};
 pub use own::Own;
 
 /// What a poll found.

@@ -19,15 +19,16 @@ pub struct Own {
 }
 
 impl Own {
-    ghost use Rattle.std.specs.Prelude.{◌≡◌, ◌<◌, ◌*◌, ◌&&◌, true, false, length};
+    ghost use Rattle.std.specs.Prelude.{◌≡◌, ◌<◌, ◌*◌, ◌&&◌, ℕ, List, true, false, length};
     ghost use Rattle.ata_taskfile.specs.declared.Phase.TheVariants.{Busy};
-    ghost use Rattle.ata_taskfile.specs.Device.{line_read};
+    ghost use Rattle.ata_taskfile.specs.Device.{Cell, line_read};
     ghost use Rattle.port_lease.specs.Free.{is_free};
     ghost use Rattle.port_lease.specs.Sides.{view_held, has_own};
     ghost use Rattle.own_pio.specs.Job.{count_of, command_of, order_of};
     ghost use Rattle.own_pio.specs.Own.{job_of, polls_left, done_of};
     ghost use Rattle.own_pio.specs.Running.{IsRunning};
-    ghost use Rattle.own_pio.specs.Poll.{answer_of, goes_on, left_after, bytes_after, block_after};
+    ghost use Rattle.own_pio.specs.Poll.{answer_of, goes_on, left_after, bytes_after};
+    ghost use Rattle.own_pio.specs.Kept.{IsKept, Leaves};
 
     /// Begins a job on a free drive, with nIEN at 1, so that the guest sees nothing of it.
     pub fn begin<P: Ports>(side: &mut MonitorSide, ports: &mut P, job: OwnJob) -> Own
@@ -41,6 +42,8 @@ impl Own {
         ensures taken { (P.device ports.new).file.phase
             ≡ Busy (order_of job (P.device ports.old).sectors) 0 }
         ensures byte { (P.device ports.new).file.command ≡ command_of job }
+        ensures kept { (bytes : List ℕ) →
+            IsKept job 0 bytes bytes (P.device ports.old).cells (P.device ports.new) }
 
         // The guest sees nothing of it, and no sector changes.
         ensures own { has_own side.new ≡ true }
@@ -71,13 +74,15 @@ impl Own {
         requires runs { IsRunning (job_of self.old) (done_of self.old) (P.device ports.old) }
         requires bytes { length bytes.old ≡ 512 * count_of (job_of self.old) }
 
-        ensures answer { result ≡ answer_of (job_of self.old) (polls_left self.old) (P.device ports.old).file }
+        ensures answer { result
+            ≡ answer_of (job_of self.old) (polls_left self.old) (P.device ports.old).file }
         ensures left { polls_left self.new ≡ left_after result (polls_left self.old) }
         ensures job { job_of self.new ≡ job_of self.old }
         ensures bytes { bytes.new
             ≡ bytes_after (job_of self.old) result (done_of self.old) (P.device ports.old) bytes.old }
-        ensures block { (P.device ports.new).block
-            ≡ block_after (job_of self.old) result (done_of self.old) bytes.old (P.device ports.old).block }
+        ensures kept { (start : List ℕ) (origin : List Cell) →
+            IsKept (job_of self.old) (done_of self.old) bytes.old start origin (P.device ports.old)
+            → Leaves result (job_of self.old) (polls_left self.old) bytes.new start origin (P.device ports.new) }
 
         // It still runs, or the drive is free.
         ensures runs { goes_on result ≡ true

@@ -1,12 +1,14 @@
 //! One poll of an own command.
 
-ghost use Rattle.std.specs.Prelude.{◌≡◌, ◌<◌, ◌≤◌, ◌*◌, ◌&&◌, true, false, length};
+ghost use Rattle.std.specs.Prelude.{◌≡◌, ◌<◌, ◌≤◌, ◌*◌, ◌&&◌, ℕ, List, true, false, length};
+ghost use Rattle.ata_taskfile.specs.Device.{Cell};
+ghost use Rattle.own_pio.specs.Kept.{IsKept, Leaves};
 ghost use Rattle.ata_taskfile.specs.TaskFile.{has_bit, status};
 ghost use Rattle.port_lease.specs.Free.{is_free};
 ghost use Rattle.port_lease.specs.Sides.{view_held, has_own};
 ghost use Rattle.own_pio.specs.Job.{IsFit, count_of, polls_of};
 ghost use Rattle.own_pio.specs.Running.{IsRunning, IsUnseen};
-ghost use Rattle.own_pio.specs.Poll.{answer_of, block_answer, done_by, goes_on, left_after, bytes_after, block_after};
+ghost use Rattle.own_pio.specs.Poll.{answer_of, block_answer, done_by, goes_on, left_after, bytes_after};
 
 use crate::moving::{put_block, take_block};
 use crate::{OwnJob, Poll};
@@ -46,11 +48,12 @@ pub(crate) fn go<P: Ports>(job: OwnJob, left: u32, ports: &mut P, bytes: &mut [u
     requires bytes { length bytes.old ≡ 512 * count_of job }
     ensures answer { result ≡ answer_of job left (P.device ports.old).file }
     ensures bytes { bytes.new ≡ bytes_after job result (done_by job left) (P.device ports.old) bytes.old }
-    ensures block { (P.device ports.new).block
-        ≡ block_after job result (done_by job left) bytes.old (P.device ports.old).block }
     ensures runs { goes_on result ≡ true
         → IsRunning job (done_by job (left_after result left)) (P.device ports.new) }
     ensures free { goes_on result ≡ false → is_free (P.device ports.new).file ≡ true }
+    ensures kept { (start : List ℕ) (origin : List Cell) →
+        IsKept job (done_by job left) bytes.old start origin (P.device ports.old)
+        → Leaves result job left bytes.new start origin (P.device ports.new) }
     ensures unseen { IsUnseen (P.device ports.old) (P.device ports.new) }
     ensures rest { P.rest ports.new ≡ P.rest ports.old }
 {
@@ -89,11 +92,12 @@ fn move_block<P: Ports>(job: OwnJob, left: u32, ports: &mut P, bytes: &mut [u8])
     requires bytes { length bytes.old ≡ 512 * count_of job }
     ensures answer { result ≡ block_answer job left }
     ensures bytes { bytes.new ≡ bytes_after job result (done_by job left) (P.device ports.old) bytes.old }
-    ensures block { (P.device ports.new).block
-        ≡ block_after job result (done_by job left) bytes.old (P.device ports.old).block }
     ensures runs { goes_on result ≡ true
         → IsRunning job (done_by job (left_after result left)) (P.device ports.new) }
     ensures free { goes_on result ≡ false → is_free (P.device ports.new).file ≡ true }
+    ensures kept { (start : List ℕ) (origin : List Cell) →
+        IsKept job (done_by job left) bytes.old start origin (P.device ports.old)
+        → Leaves result job left bytes.new start origin (P.device ports.new) }
     ensures unseen { IsUnseen (P.device ports.old) (P.device ports.new) }
     ensures rest { P.rest ports.new ≡ P.rest ports.old }
 {

@@ -14,8 +14,7 @@ loop-i-preserved g c =
     let given = c.requires.given.given in
     let word : c.read_word.result ≡ get_or d.block c.loop-i.i 0 = c.read_word.ensures.answer ∙ word_is c.loop-i.i d e (omega arith) given so_far.0 in
     let low : get_or c.to_le_bytes.result 0 0 ≡ get_or d.block c.loop-i.i 0 % 256 = grind (arith, word) in
-    let high : get_or c.to_le_bytes.result 1 0 ≡ get_or d.block c.loop-i.i 0 / 256 = grind (arith, word) in
-    (
+    let high : get_or c.to_le_bytes.result 1 0 ≡ get_or d.block c.loop-i.i 0 / 256 = grind (arith, word) in (
       c.read_word.ensures.after ∙ device_read c.loop-i.i d e (omega arith) given so_far.0,
       word_over c.loop-i.i c.args.start _ _ d.block c.args.bytes.now c.loop-i.bytes c.requires.given.whole (omega arith) c.requires.room low high so_far.1,
       c.read_word.ensures.rest ∙ so_far.2,
