@@ -20,7 +20,8 @@ pub fn steps_keep_running()
 /// And every step leaves the sectors what the job makes of them, as far as it has come: a write's are its bytes one
 /// after the other, a flush's are durable, and any other sector is as it was at the begin.
 pub fn steps_keep_what_was_done()
-    ensures { (job : JobOf) (done : ℕ) (bytes start : List ℕ) (origin : List Cell) (step : StepOf) (p : Plain)
-        → IsLawful p.device → IsRunning job done p.device → IsKept job done bytes start origin p.device
+    ensures { (job : JobOf) (done : ℕ) (bytes start : List ℕ) (origin : List Cell)
+        (step : StepOf) (p : Plain) → IsLawful p.device → IsRunning job done p.device
+        → IsKept job done bytes start origin p.device
         → IsKept job done bytes start origin (step_made step p).device }
 {}

@@ -79,10 +79,12 @@ impl Own {
         ensures left { polls_left self.new ≡ left_after result (polls_left self.old) }
         ensures job { job_of self.new ≡ job_of self.old }
         ensures bytes { bytes.new
-            ≡ bytes_after (job_of self.old) result (done_of self.old) (P.device ports.old) bytes.old }
+            ≡ bytes_after (job_of self.old) result (done_of self.old)
+            (P.device ports.old) bytes.old }
         ensures kept { (start : List ℕ) (origin : List Cell) →
             IsKept (job_of self.old) (done_of self.old) bytes.old start origin (P.device ports.old)
-            → Leaves result (job_of self.old) (polls_left self.old) bytes.new start origin (P.device ports.new) }
+            → Leaves result (job_of self.old) (polls_left self.old) bytes.new start origin
+            (P.device ports.new) }
 
         // It still runs, or the drive is free.
         ensures runs { goes_on result ≡ true

@@ -47,7 +47,8 @@ pub(crate) fn go<P: Ports>(job: OwnJob, left: u32, ports: &mut P, bytes: &mut [u
     requires runs { IsRunning job (done_by job left) (P.device ports.old) }
     requires bytes { length bytes.old ≡ 512 * count_of job }
     ensures answer { result ≡ answer_of job left (P.device ports.old).file }
-    ensures bytes { bytes.new ≡ bytes_after job result (done_by job left) (P.device ports.old) bytes.old }
+    ensures bytes { bytes.new
+        ≡ bytes_after job result (done_by job left) (P.device ports.old) bytes.old }
     ensures runs { goes_on result ≡ true
         → IsRunning job (done_by job (left_after result left)) (P.device ports.new) }
     ensures free { goes_on result ≡ false → is_free (P.device ports.new).file ≡ true }
@@ -91,7 +92,8 @@ fn move_block<P: Ports>(job: OwnJob, left: u32, ports: &mut P, bytes: &mut [u8])
     requires offers { has_bit 8 (status (P.device ports.old).file) ≡ true }
     requires bytes { length bytes.old ≡ 512 * count_of job }
     ensures answer { result ≡ block_answer job left }
-    ensures bytes { bytes.new ≡ bytes_after job result (done_by job left) (P.device ports.old) bytes.old }
+    ensures bytes { bytes.new
+        ≡ bytes_after job result (done_by job left) (P.device ports.old) bytes.old }
     ensures runs { goes_on result ≡ true
         → IsRunning job (done_by job (left_after result left)) (P.device ports.new) }
     ensures free { goes_on result ≡ false → is_free (P.device ports.new).file ≡ true }

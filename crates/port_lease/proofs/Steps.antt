@@ -1,5 +1,5 @@
 -- What the drive's steps keep.
-use Rattle.std.proofs.Common.{◌≡◌, ℕ, Bool, true, false, refl, arith}
+use Rattle.std.proofs.Common.{◌≡◌, ℕ, true, false, refl, arith}
 use Rattle.ata_taskfile.specs.declared.Form.{Form}
 use Rattle.ata_taskfile.specs.declared.Form.TheVariants.{NoMove, PioIn, PioOut, DmaIn, DmaOut}
 use Rattle.ata_taskfile.specs.declared.Request.{Request}
@@ -13,7 +13,7 @@ use Rattle.ata_taskfile.specs.Device.{is_moving}
 use Rattle.plain_drive.specs.Plain.{Plain}
 use Rattle.plain_drive.specs.Step.{proceeded, stepped, failed_step, step_made}
 use Rattle.port_lease.specs.declared.view.View.{View}
-use Rattle.port_lease.specs.View.{IsKept, IsGiven, uses_bus}
+use Rattle.port_lease.specs.View.{IsKept, IsGiven}
 use Rattle.port_lease.specs.Free.{is_free}
 
 module _ (v : View) where

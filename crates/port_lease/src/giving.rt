@@ -49,7 +49,8 @@ fn give_bus<P: Ports>(view: &View, ports: &mut P)
     requires lawful { IsLawfulView view.now }
     requires fresh { is_fresh view.now.file.phase ≡ true }
     requires walking { uses_bus view.now ≡ true → is_some view.now.bus.walk ≡ true }
-    ensures given { let d = P.device ports.old in P.device ports.new ≡ with_bus (bus_given view.now d.bus) d }
+    ensures given { let d = P.device ports.old in
+        P.device ports.new ≡ with_bus (bus_given view.now d.bus) d }
     ensures rest { P.rest ports.new ≡ P.rest ports.old }
 {
     if view.file.phase.is_moving() {

@@ -100,7 +100,8 @@ fn read8<P: Ports>(view: &View, ports: &mut P, reg: Reg) -> u8
 // The status register of the bus master that the guest sees.
 #[tactic(auto, using(crate::proofs::Bus::active_read, crate::proofs::Bus::error_read, crate::proofs::Bus::interrupt_read))]
 fn status_seen<P: Ports>(view: &View, ports: &mut P) -> u8
-    ensures answer { result ≡ byte_read Reg.BusStatus (on_guest_side view.now (P.device ports.old)) }
+    ensures answer { result
+        ≡ byte_read Reg.BusStatus (on_guest_side view.now (P.device ports.old)) }
     ensures drive { P.device ports.new ≡ P.device ports.old }
     ensures rest { P.rest ports.new ≡ P.rest ports.old }
 {

@@ -91,7 +91,8 @@ pub(crate) fn put_command<P: Ports>(ports: &mut P, command: u8)
 // The direction and the pointer of a bus master, which is stopped for it.
 pub(crate) fn put_bus<P: Ports>(ports: &mut P, bus: &Bus)
     requires { bus.now.pointer % 4 ≡ 0 }
-    ensures put { P.device ports.new ≡ with_bus (bus_put bus.now (P.device ports.old).bus) (P.device ports.old) }
+    ensures put { let d = P.device ports.old in
+        P.device ports.new ≡ with_bus (bus_put bus.now d.bus) d }
     ensures rest { P.rest ports.new ≡ P.rest ports.old }
 {
     ports.write8(Reg::BusCommand, direction(bus));
@@ -101,7 +102,8 @@ pub(crate) fn put_bus<P: Ports>(ports: &mut P, bus: &Bus)
 // And a walk, which begins at the table's top.
 pub(crate) fn start_bus<P: Ports>(ports: &mut P, bus: &Bus)
     requires { bus.now.pointer % 4 ≡ 0 }
-    ensures put { P.device ports.new ≡ with_bus (bus_started bus.now (P.device ports.old).bus) (P.device ports.old) }
+    ensures put { let d = P.device ports.old in
+        P.device ports.new ≡ with_bus (bus_started bus.now d.bus) d }
     ensures rest { P.rest ports.new ≡ P.rest ports.old }
 {
     put_bus(ports, bus);
