@@ -1,9 +1,9 @@
 -- What the registers of a bus master tell.
-use Rattle.std.proofs.Common.{◌≡◌, ℕ, Bool, true, false, if◌then◌else◌, bit_or, bit_and, Option, Some, None, is_some, refl}
+use Rattle.std.proofs.Common.{◌≡◌, ℕ, Bool, true, false, if◌then◌else◌, bit_or, Option, Some, None, is_some, refl}
 use Rattle.ata_taskfile.specs.declared.bus_master.Bus.{Bus}
 use Rattle.ata_taskfile.specs.declared.registers.TheConstants.{START, INWARD, ACTIVE, BUS_ERROR, INTERRUPT}
 use Rattle.ata_taskfile.specs.TaskFile.{has_bit}
-use Rattle.ata_taskfile.specs.Bus.{bit_shown, command_shown, status_shown, command_written, walk_stopped}
+use Rattle.ata_taskfile.specs.Bus.{bit_shown, command_shown, status_shown}
 use Rattle.ata_taskfile.specs.Lawful.{moved_by}
 
 two : (s i : Bool) → (has_bit START (bit_or (bit_shown s START) (bit_shown i INWARD)) ≡ s) × (has_bit INWARD (bit_or (bit_shown s START) (bit_shown i INWARD)) ≡ i)
@@ -54,13 +54,3 @@ pub all_read : (b : Bus) (start inward active error interrupt walking : Bool) (p
     → start ≡ b.start → inward ≡ b.inward → active ≡ b.active → error ≡ b.error → interrupt ≡ b.interrupt → pointer ≡ b.pointer → walking ≡ is_some b.walk
     → (let all : Bus = record { start = start; inward = inward; active = active; error = error; interrupt = interrupt; pointer = pointer; walk = if walking then Some 0 else None } in all) ≡ b
 all_read b start inward active error interrupt walking pointer none s i a e n p w = let top = walk_at_top b.walk none walking w in rw (s, i, a, e, n, p, top) refl
-
--- a write of the command register as it is, but with start at 0, stops the walk and leaves the direction
-stopped : (s i : Bool) (b : Bus) → b.start ≡ s → b.inward ≡ i → command_written (bit_and (bit_or (bit_shown s START) (bit_shown i INWARD)) 254) b ≡ walk_stopped b
-stopped true true b e f = rw f refl
-stopped true false b e f = rw f refl
-stopped false true b e f = rw f refl
-stopped false false b e f = rw f refl
-
-pub stop_written : (b : Bus) → command_written (bit_and (command_shown b) 254) b ≡ walk_stopped b
-stop_written b = stopped b.start b.inward b refl refl
