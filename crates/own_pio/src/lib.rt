@@ -1,12 +1,3 @@
-//! The monitor's own commands to the drive.
-//!
-//! `OwnJob` says what one of them does.
-
-#![tactic(auto)]
-
-mod job;
-
-pub use job::OwnJob;
 //! The monitor's own commands, by PIO, on a drive that it has: sectors read, sectors written, or a flush.
 //!
 //! Start with `OwnJob` for what a command is to do, then `own` for the calls. `specs/Job.antt` says what a job asks the
