@@ -54,7 +54,8 @@ impl Model for Client {
 
     ghost view = { λ c. record { block = c.block; demand = c.demand; background = c.background } };
 
-    ghost invariant = { λ c. IsBlockSize c.block × HasTags c.block c.demand × HasTags c.block c.background };
+    ghost invariant = { λ c.
+        IsBlockSize c.block × HasTags c.block c.demand × HasTags c.block c.background };
 }
 
 impl Client {
@@ -159,8 +160,10 @@ impl Client {
     /// where the slot is free or a tag of it isn't answered.
     pub fn done(&mut self, slot: Slot) -> Option<(u32, Lease)>
         ensures fetched { result ≡ done_in (in_slot slot self.old) }
-        ensures after { self.new ≡ (if is_some result then with_slot slot None self.old else self.old) }
-        ensures finished { (source : ℕ → List ℕ) (pool : Region) → Holds source (in_slot slot self.old) pool →
+        ensures after { self.new
+            ≡ (if is_some result then with_slot slot None self.old else self.old) }
+        ensures finished { (source : ℕ → List ℕ) (pool : Region) →
+            Holds source (in_slot slot self.old) pool →
             IfSome result (IsFetched source (tags_in self.old.block) pool) }
     {
         match slot {

@@ -125,8 +125,10 @@ impl Fetch {
         requires room { length self.old.tags * PART_BYTES ≤ pool.old.room }
         requires sectors { length sectors.now ≡ PART_BYTES }
         ensures open { result ≡ is_open (state_of tag self.old) }
-        ensures after { self.new ≡ (if result then with_tag TagState.Answered tag self.old else self.old) }
-        ensures pool { pool.new ≡ (if result then with_sectors tag sectors.now self.old pool.old else pool.old) }
+        ensures after { self.new
+            ≡ (if result then with_tag TagState.Answered tag self.old else self.old) }
+        ensures pool { pool.new
+            ≡ (if result then with_sectors tag sectors.now self.old pool.old else pool.old) }
     {
         let Some(place) = self.open_place(tag) else {
             return false;

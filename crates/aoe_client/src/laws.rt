@@ -21,8 +21,8 @@ pub fn buffers_outlast()
         BothHold source (next_sent c) pool }
     ensures ticks { (source : ℕ → List ℕ) (pool : Region) (c : Asking) → BothHold source c pool →
         BothHold source (both_ticked c) pool }
-    ensures asking { (source : ℕ → List ℕ) (pool : Region) (slot : SlotOf) (count block : ℕ) (lease : Held)
-        (c : Asking) → BothHold source c pool →
+    ensures asking { (source : ℕ → List ℕ) (pool : Region) (slot : SlotOf) (count block : ℕ)
+        (lease : Held) (c : Asking) → BothHold source c pool →
         BothHold source (with_slot slot (Some (asked_for count block lease)) c) pool }
     ensures freeing { (source : ℕ → List ℕ) (pool : Region) (slot : SlotOf) (c : Asking) →
         BothHold source c pool → BothHold source (with_slot slot None c) pool }
@@ -31,7 +31,7 @@ pub fn buffers_outlast()
 /// What is taken for a tag of a frame that the server sent over an image, in reply to whatever frame, is the tag's two
 /// sectors of the image.
 pub fn the_servers_sectors_are_the_images()
-    ensures { (sectors : ℕ) (image : List ℕ) (tag : ℕ) (r : Result AoeOf FaultOf) (asked bytes : List ℕ) (m : AoeOf) →
-        IsReading asked r → reply sectors image r ≡ Some m → bytes ≡ frame_of m →
+    ensures { (sectors : ℕ) (image : List ℕ) (tag : ℕ) (r : Result AoeOf FaultOf)
+        (asked bytes : List ℕ) (m : AoeOf) → IsReading asked r → reply sectors image r ≡ Some m → bytes ≡ frame_of m →
         Answers bytes tag → sectors_in bytes ≡ bytes_at (1024 * tag) 1024 image }
 {}

@@ -24,7 +24,8 @@ pub fn a_new_lease_is_apart()
 
 /// A lease that is given back isn't of the pool any more, and every other lease still is.
 pub fn a_given_lease_is_spent()
-    ensures own { (pool : Region) (lease : Held) → IsOf lease pool → ¬ IsOf lease (given lease pool) }
+    ensures own { (pool : Region) (lease : Held) →
+        IsOf lease pool → ¬ IsOf lease (given lease pool) }
     ensures others { (pool : Region) (lease other : Held) → other.slot ≢ lease.slot →
         IsOf other pool → IsOf other (given lease pool) }
 {}

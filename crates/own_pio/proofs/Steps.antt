@@ -11,12 +11,20 @@ use Rattle.ata_taskfile.specs.declared.Step.TheVariants as step
 use Rattle.ata_taskfile.specs.declared.registers.TheConstants.{DEV}
 use Rattle.ata_taskfile.specs.TaskFile.{has_bit}
 use Rattle.ata_taskfile.specs.Lawful.{IsLawful}
-use Rattle.plain_drive.specs.Plain.{Plain}
+use Rattle.plain_drive.specs.Plain.{Plain, with_cells}
+use Rattle.plain_drive.specs.Change.{cells_after, change_in}
 use Rattle.plain_drive.specs.Step.{stepped, failed_step, step_made}
 use Rattle.own_pio.specs.declared.job.OwnJob.{OwnJob}
 use Rattle.own_pio.specs.declared.job.OwnJob.TheVariants.{Read, Write, Flush}
 use Rattle.own_pio.specs.Job.{IsFit, request_of, order_of}
 use Rattle.own_pio.specs.Running.{IsRunning, StandsIn}
+
+-- a good step in a phase, and a bad one, with what they do to the sectors
+abbrev pub gone : Phase → Plain → Plain
+gone phase p = with_cells (cells_after (change_in phase p) p.device.cells) (stepped phase p)
+
+abbrev pub gave_up : Phase → Plain → Plain
+gave_up phase p = with_cells p.device.cells (failed_step phase p)
 
 -- an order of a job that isn't refused is its request
 pub good_order : (job : OwnJob) (order : Request) (sectors : ℕ) → Good order ≡ order_of job sectors → Good order ≡ Good (request_of job)
@@ -35,34 +43,34 @@ stands_at job done phase p e r = let P : Phase → Type 0 = λ x. StandsIn x job
 
 -- a step of each kind of job
 read_running : (first count done : ℕ) (order : Request) (position : ℕ) (p : Plain) → IsFit (Read first count) → p.device.file.phase ≡ Busy (Good order) position → IsLawful p.device
-    → IsRunning (Read first count) done p.device → IsRunning (Read first count) done (stepped (Busy (Good order) position) p).device
+    → IsRunning (Read first count) done p.device → IsRunning (Read first count) done (gone (Busy (Good order) position) p).device
 read_running first count done order position p fit e l r =
     let s = stands_at (Read first count) done (Busy (Good order) position) p e r in
     let is = good_order (Read first count) order p.device.sectors s.order_is in
     grind (arith, s, is)
 
 write_running : (first count done : ℕ) (order : Request) (position : ℕ) (p : Plain) → IsFit (Write first count) → p.device.file.phase ≡ Busy (Good order) position → IsLawful p.device
-    → IsRunning (Write first count) done p.device → IsRunning (Write first count) done (stepped (Busy (Good order) position) p).device
+    → IsRunning (Write first count) done p.device → IsRunning (Write first count) done (gone (Busy (Good order) position) p).device
 write_running first count done order position p fit e l r =
     let s = stands_at (Write first count) done (Busy (Good order) position) p e r in
     let is = good_order (Write first count) order p.device.sectors s.order_is in
     grind (arith, s, is)
 
 flush_running : (done : ℕ) (order : Request) (position : ℕ) (p : Plain) → p.device.file.phase ≡ Busy (Good order) position
-    → IsRunning Flush done p.device → IsRunning Flush done (stepped (Busy (Good order) position) p).device
+    → IsRunning Flush done p.device → IsRunning Flush done (gone (Busy (Good order) position) p).device
 flush_running done order position p e r =
     let s = stands_at Flush done (Busy (Good order) position) p e r in
     let is = good_order Flush order p.device.sectors s.order_is in
     grind (arith, s, is)
 
 -- a step that fails
-failed_running : (job : OwnJob) (done : ℕ) (order : Request) (position : ℕ) (p : Plain) → IsRunning job done p.device → IsRunning job done (failed_step (Busy (Good order) position) p).device
+failed_running : (job : OwnJob) (done : ℕ) (order : Request) (position : ℕ) (p : Plain) → IsRunning job done p.device → IsRunning job done (gave_up (Busy (Good order) position) p).device
 failed_running job done order position p r = grind (arith, dev_kept)
 
-refused_running : (job : OwnJob) (done : ℕ) (reason : Refused) (position : ℕ) (p : Plain) → IsRunning job done p.device → IsRunning job done (failed_step (Busy (Bad reason) position) p).device
+refused_running : (job : OwnJob) (done : ℕ) (reason : Refused) (position : ℕ) (p : Plain) → IsRunning job done p.device → IsRunning job done (gave_up (Busy (Bad reason) position) p).device
 refused_running job done reason position p r = grind arith
 
-good_running : (job : OwnJob) (done : ℕ) (phase : Phase) (p : Plain) → IsFit job → p.device.file.phase ≡ phase → IsLawful p.device → IsRunning job done p.device → IsRunning job done (stepped phase p).device
+good_running : (job : OwnJob) (done : ℕ) (phase : Phase) (p : Plain) → IsFit job → p.device.file.phase ≡ phase → IsLawful p.device → IsRunning job done p.device → IsRunning job done (gone phase p).device
 good_running job done Reset p fit e l r = absurd (stands_at job done Reset p e r)
 good_running job done Idle p fit e l r = r
 good_running job done (Ready taken position left) p fit e l r = r
@@ -71,7 +79,7 @@ good_running (Read first count) done (Busy (Good order) position) p fit e l r = 
 good_running (Write first count) done (Busy (Good order) position) p fit e l r = write_running first count done order position p fit e l r
 good_running Flush done (Busy (Good order) position) p fit e l r = flush_running done order position p e r
 
-bad_running : (job : OwnJob) (done : ℕ) (phase : Phase) (p : Plain) → p.device.file.phase ≡ phase → IsRunning job done p.device → IsRunning job done (failed_step phase p).device
+bad_running : (job : OwnJob) (done : ℕ) (phase : Phase) (p : Plain) → p.device.file.phase ≡ phase → IsRunning job done p.device → IsRunning job done (gave_up phase p).device
 bad_running job done Reset p e r = r
 bad_running job done Idle p e r = r
 bad_running job done (Ready taken position left) p e r = r

@@ -11,7 +11,8 @@ use Rattle.ata_taskfile.specs.declared.Step.TheVariants as step
 use Rattle.ata_taskfile.specs.Data.{moves_by_bus}
 use Rattle.ata_taskfile.specs.Device.{is_moving}
 use Rattle.plain_drive.specs.Plain.{Plain}
-use Rattle.plain_drive.specs.Step.{proceeded, stepped, failed_step, step_made}
+use Rattle.plain_drive.specs.Step.{acts_in, proceeded, stepped, failed_step, step_made}
+use Rattle.plain_drive.proofs.Steps.{step_made_no}
 use Rattle.port_lease.specs.declared.view.View.{View}
 use Rattle.port_lease.specs.View.{IsKept, IsGiven}
 use Rattle.port_lease.specs.Free.{is_free}
@@ -74,12 +75,9 @@ step-given v step.Bad p given = λ calm. failed-moves p.device.file.phase p refl
 is_idle : (phase : Phase) (p : Plain) → p.device.file.phase ≡ phase → is_free p.device.file ≡ true → phase ≡ Idle
 is_idle phase p e free = grind arith
 
-stepped-free : (phase : Phase) (p : Plain) → phase ≡ Idle → stepped phase p ≡ p
-stepped-free phase p e = rw e refl
-
-failed-free : (phase : Phase) (p : Plain) → phase ≡ Idle → failed_step phase p ≡ p
-failed-free phase p e = rw e refl
+idle-acts : (s : Step) (phase : Phase) (p : Plain) → phase ≡ Idle → acts_in s phase p ≡ false
+idle-acts step.Good phase p e = rw e refl
+idle-acts step.Bad phase p e = rw e refl
 
 pub step-free : (s : Step) (p : Plain) → is_free p.device.file ≡ true → step_made s p ≡ p
-step-free step.Good p free = stepped-free p.device.file.phase p (is_idle p.device.file.phase p refl free)
-step-free step.Bad p free = failed-free p.device.file.phase p (is_idle p.device.file.phase p refl free)
+step-free s p free = step_made_no s p (idle-acts s p.device.file.phase p (is_idle p.device.file.phase p refl free))
