@@ -31,7 +31,7 @@ pub good_order : (job : OwnJob) (order : Request) (sectors : ℕ) → Good order
 good_order job order sectors e = grind arith
 
 -- DEV stays where an address comes into Device
-dev_kept : (device b : ℕ) → has_bit DEV device ≡ false → has_bit DEV (bit_or (bit_and device 240) (bit_and b 15)) ≡ false
+pub dev_kept : (device b : ℕ) → has_bit DEV device ≡ false → has_bit DEV (bit_or (bit_and device 240) (bit_and b 15)) ≡ false
 dev_kept device b e =
     let none : bit_and (bit_and b 15) 16 ≡ 0 = and_assoc 16 b 15 ∙ and_mask b 0 ∙ omega arith in
     let same : bit_and (bit_or (bit_and device 240) (bit_and b 15)) 16 ≡ bit_and device 16 = and_or_apart 16 (bit_and device 240) (bit_and b 15) none ∙ and_assoc 16 device 240 in

@@ -1,16 +1,26 @@
 -- The registers that name sectors for a command of 28 bits.
-use Rattle.std.specs.Prelude.{◌≡◌, ℕ, Bool, true, false, ◌+◌, ◌/◌, ◌%◌}
+use Rattle.std.specs.Prelude.{◌≡◌, ℕ, Bool, true, false, ◌||◌, ◌==◌, ◌+◌, ◌/◌, ◌%◌}
 use Rattle.ata_taskfile.specs.declared.Reg.{Reg}
 use Rattle.ata_taskfile.specs.declared.Reg.TheVariants as reg
 use Rattle.ata_taskfile.specs.declared.Phase.TheVariants.{Idle}
+use Rattle.ata_taskfile.specs.declared.registers.TheConstants.{NIEN}
 use Rattle.ata_taskfile.specs.declared.task_file.TaskFile.{TaskFile}
 use Rattle.ata_taskfile.specs.TaskFile.{moved_in}
 
--- a drive at rest whose line nIEN keeps low
-pub record IsMasked (f : TaskFile) : Type 0 where
+-- Device Control by nIEN alone (ATA/ATAPI-6, Device Control register)
+abbrev pub nien_of : Bool → ℕ
+nien_of true = NIEN
+nien_of false = 0
+
+-- no bit but nIEN is 1
+abbrev pub is_nien : ℕ → Bool
+is_nien control = (control == 0) || (control == NIEN)
+
+-- a drive at rest without an interrupt, whose Device Control is nIEN alone
+pub record IsStill (f : TaskFile) : Type 0 where
   pub idle : f.phase ≡ Idle
   pub unpended : f.pending ≡ false
-  pub control : f.control ≡ 2
+  pub control : is_nien f.control ≡ true
 
 -- a register that names sectors
 abbrev pub is_naming : Reg → Bool

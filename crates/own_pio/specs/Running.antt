@@ -11,6 +11,7 @@ use Rattle.plain_drive.specs.Plain.{sector_value, words_of}
 use Rattle.own_pio.specs.declared.job.OwnJob.{OwnJob}
 use Rattle.own_pio.specs.declared.job.OwnJob.TheVariants.{Read, Write, Flush}
 use Rattle.own_pio.specs.Job.{moves_blocks, count_of, order_of, request_of, command_of}
+use Rattle.own_pio.specs.Named.{nien_of}
 
 -- a job of which so many blocks went has come to its end where the drive is idle: a read ends with its last block, in the poll that takes it
 abbrev pub may_end : OwnJob → ℕ → Bool
@@ -52,9 +53,9 @@ pub record IsRunning (job : OwnJob) (done : ℕ) (d : Device) : Type 0 where
   pub selected : has_bit DEV d.file.device ≡ false
   pub stands : StandsIn d.file.phase job done d
 
--- a drive that has just taken a job's command: nothing but registers changed
-pub record IsBegun (job : OwnJob) (old new : Device) : Type 0 where
-  pub control : new.file.control ≡ 2
+-- a drive that has just taken a job's command, with nIEN at 1 or 0: nothing but registers changed
+pub record IsBegun (masked : Bool) (job : OwnJob) (old new : Device) : Type 0 where
+  pub control : new.file.control ≡ nien_of masked
   pub selected : has_bit DEV new.file.device ≡ false
   pub phase : new.file.phase ≡ Busy (order_of job old.sectors) 0
   pub command : new.file.command ≡ command_of job

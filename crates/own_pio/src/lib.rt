@@ -12,6 +12,7 @@ mod moving;
 mod own;
 mod polling;
 
+pub use commands::command_read;
 pub use job::OwnJob;
 pub use laws::{steps_keep_running, steps_keep_what_was_done};
 pub use own::Own;
