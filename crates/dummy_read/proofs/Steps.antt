@@ -9,14 +9,13 @@ use Rattle.ata_taskfile.specs.declared.Step.{Step}
 use Rattle.ata_taskfile.specs.declared.Step.TheVariants as step
 use Rattle.plain_drive.specs.Plain.{Plain}
 use Rattle.plain_drive.specs.Step.{step_made}
-use Rattle.own_pio.specs.Running.{StandsIn}
 use Rattle.own_pio.proofs.Steps.{dev_kept, gave_up, gone, good_order}
 use Rattle.dummy_read.specs.Dummy.{job_on}
-use Rattle.dummy_read.specs.Flight.{IsInFlight}
+use Rattle.dummy_read.specs.Flight.{FliesIn, IsInFlight}
 
 -- where the drive stands, by its phase
-stands_at : (sector : ℕ) (cancelled : Bool) (phase : Phase) (p : Plain) → p.device.file.phase ≡ phase → IsInFlight sector cancelled p.device → StandsIn phase (job_on sector) 0 p.device
-stands_at sector cancelled phase p e f = let P : Phase → Type 0 = λ x. StandsIn x (job_on sector) 0 p.device in subst P e f.stands
+stands_at : (sector : ℕ) (cancelled : Bool) (phase : Phase) (p : Plain) → p.device.file.phase ≡ phase → IsInFlight sector cancelled p.device → FliesIn phase p.device.file.failed sector p.device.sectors
+stands_at sector cancelled phase p e f = let P : Phase → Type 0 = λ x. FliesIn x p.device.file.failed sector p.device.sectors in subst P e f.stands
 
 read_flies : (sector : ℕ) (cancelled : Bool) (order : Request) (position : ℕ) (p : Plain) → p.device.file.phase ≡ Busy (Good order) position
     → IsInFlight sector cancelled p.device → IsInFlight sector cancelled (gone (Busy (Good order) position) p).device

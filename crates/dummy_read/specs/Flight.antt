@@ -1,16 +1,37 @@
 -- A drive with a dummy read.
 use Rattle.std.specs.Prelude.{◌≡◌, ℕ, Bool, true, false, not}
 use Rattle.ata_taskfile.specs.declared.registers.TheConstants.{DEV, NIEN}
-use Rattle.ata_taskfile.specs.declared.Phase.TheVariants.{Idle}
+use Rattle.ata_taskfile.specs.declared.Taken.{Taken}
+use Rattle.ata_taskfile.specs.declared.Taken.TheVariants.{Good}
+use Rattle.ata_taskfile.specs.declared.Phase.{Phase}
+use Rattle.ata_taskfile.specs.declared.Phase.TheVariants.{Reset, Idle, Busy, Ready}
 use Rattle.ata_taskfile.specs.TaskFile.{has_bit, is_at_work, masks_line}
 use Rattle.ata_taskfile.specs.Device.{Device}
-use Rattle.own_pio.specs.Running.{StandsIn}
+use Rattle.own_pio.specs.Job.{order_of, request_of}
 use Rattle.dummy_read.specs.Dummy.{job_on}
 
--- the drive is at work on a dummy read, or its interrupt pends and no word of the block was taken; once it was cancelled nIEN is 1
+-- the drive is at work on the read of a sector
+pub record IsAtWork (sector : ℕ) (order : Taken) (position sectors : ℕ) : Type 0 where
+  pub order_is : order ≡ order_of (job_on sector) sectors
+  pub position_is : position ≡ 0
+
+-- the sector's block waits in Data, and no word of it was taken
+pub record IsOffered (sector : ℕ) (order : Taken) (position left : ℕ) : Type 0 where
+  pub good : order ≡ Good (request_of (job_on sector))
+  pub position_is : position ≡ 0
+  pub whole : left ≡ 256
+
+-- where a dummy read stands, by the phase and by whether the last command failed, on a drive of so many sectors
+abbrev pub FliesIn : Phase → Bool → ℕ → ℕ → Type 0
+FliesIn Reset failed sector sectors = ⊥
+FliesIn Idle failed sector sectors = failed ≡ true
+FliesIn (Busy order position) failed sector sectors = IsAtWork sector order position sectors
+FliesIn (Ready order position left) failed sector sectors = IsOffered sector order position left
+
+-- the drive is at work on a dummy read, or its interrupt pends for the next poll to find; once it was cancelled nIEN is 1
 pub record IsInFlight (sector : ℕ) (cancelled : Bool) (d : Device) : Type 0 where
   pub selected : has_bit DEV d.file.device ≡ false
-  pub stands : StandsIn d.file.phase (job_on sector) 0 d
+  pub stands : FliesIn d.file.phase d.file.failed sector d.sectors
   pub pending : d.file.pending ≡ not (is_at_work d.file.phase)
   pub masked : cancelled ≡ true → masks_line d.file ≡ true
 

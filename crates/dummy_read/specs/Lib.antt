@@ -1,2 +1,3 @@
 pub mod Dummy
 pub mod Flight
+pub mod SmallDrive
