@@ -5,3 +5,4 @@ pub mod Named
 pub mod Moving
 pub mod Poll
 pub mod Kept
+pub mod Small
