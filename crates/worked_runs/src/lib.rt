@@ -17,4 +17,6 @@ mod files;
 #[cfg(test)]
 mod hosts;
 #[cfg(test)]
+mod own_commands;
+#[cfg(test)]
 mod refusals;
