@@ -80,8 +80,8 @@ abbrev pub IfTold : Option (List ℕ) → (List ℕ → Type 0) → Type 0
 IfTold None P = ⊤
 IfTold (Some bytes) P = P bytes
 
--- a role that isn't told stays so, and where it is told before and after, the two are in this relation
-abbrev pub Becomes : (List ℕ → List ℕ → Type 0) → Option (List ℕ) → Option (List ℕ) → Type 0
+-- what isn't told stays so, and where it is told before and after, the two are in this relation
+abbrev pub Becomes : {A : Type 0} → (A → A → Type 0) → Option A → Option A → Type 0
 Becomes change None None = ⊤
 Becomes change None (Some new) = ⊥
 Becomes change (Some old) None = ⊤

@@ -1,6 +1,7 @@
 -- What a store holds, and what a call to it owes.
-use Rattle.std.specs.Prelude.{ℕ, ◌≡◌, List, length, All, Option, Some, None, IfSome, Result, Ok, Err, ⊤}
+use Rattle.std.specs.Prelude.{ℕ, ◌≡◌, List, length, All, Option, IfSome, Result, Ok, Err}
 use Rattle.bm_host.specs.Outside.{Rose}
+pub use Rattle.bm_host.specs.Outside.{Becomes}
 
 -- so many sectors, and the bytes of each, one sector after the other, where these are told (own)
 pub record Sectors : Type 0 where
@@ -15,13 +16,6 @@ pub record IsListOf (count : ℕ) (list : List (List ℕ)) : Type 0 where
 -- where sectors are told, they are as many as there are
 abbrev pub IsWhole : Sectors → Type 0
 IsWhole s = IfSome s.told (λ list. IsListOf s.count list)
-
--- sectors that aren't told stay so, and where they are told before and after, the two are in this relation
-abbrev pub Becomes : (List (List ℕ) → List (List ℕ) → Type 0) → Option (List (List ℕ)) → Option (List (List ℕ)) → Type 0
-Becomes change None None = ⊤
-Becomes change None (Some new) = ⊥
-Becomes change (Some old) None = ⊤
-Becomes change (Some old) (Some new) = change old new
 
 -- a call that fails has raised the count of faults, and a call that doesn't has left it as it was
 abbrev pub Counted : {T E : Type 0} → ℕ → ℕ → Result T E → Type 0
