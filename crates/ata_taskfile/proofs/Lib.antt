@@ -1,4 +1,3 @@
 pub mod Lawfulness
 pub mod Ends
 pub mod Cells
-pub mod Writes
