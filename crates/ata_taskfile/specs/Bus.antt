@@ -1,4 +1,4 @@
--- The bus master of one channel: its two registers, its pointer, its interrupt bit, and where a walk begins and ends.
+-- The bus master of one channel: its registers, its pointer, and where a walk begins and ends.
 use Rattle.std.specs.Prelude.{ℕ, Bool, true, false, not, ◌&&◌, ◌-◌, ◌%◌, if◌then◌else◌, bit_or, Some, None}
 use Rattle.ata_taskfile.specs.declared.Reg.{Reg}
 use Rattle.ata_taskfile.specs.declared.Reg.TheVariants as reg
@@ -13,15 +13,25 @@ bit_shown false bit = 0
 
 -- power-on: all 0 (own)
 abbrev pub idle_bus : Bus
-idle_bus = record { start = false; inward = false; active = false; error = false; interrupt = false; pointer = 0; walk = None }
+idle_bus = record {
+  start = false;
+  inward = false;
+  active = false;
+  error = false;
+  interrupt = false;
+  pointer = 0;
+  walk = None;
+}
 
 -- the byte of the command register: start and direction (Bus Master IDE 1.0, command register)
 abbrev pub command_shown : Bus → ℕ
 command_shown b = bit_or (bit_shown b.start START) (bit_shown b.inward INWARD)
 
--- the byte of the status register: active, error and interrupt (Bus Master IDE 1.0, status register; own: bits 3 to 7 are 0)
+-- the byte of the status register: active, error and interrupt (Bus Master IDE 1.0, status register);
+-- bits 3 to 7 are 0 (own)
 abbrev pub status_shown : Bus → ℕ
-status_shown b = bit_or (bit_or (bit_shown b.active ACTIVE) (bit_shown b.error BUS_ERROR)) (bit_shown b.interrupt INTERRUPT)
+status_shown b =
+    bit_or (bit_or (bit_shown b.active ACTIVE) (bit_shown b.error BUS_ERROR)) (bit_shown b.interrupt INTERRUPT)
 
 -- what a read of a register of the bus master answers; it changes nothing
 abbrev pub bus_value : Reg → Bus → ℕ
@@ -48,7 +58,8 @@ walk_ended b = record b { walk = None }
 abbrev pub walk_stopped : Bus → Bus
 walk_stopped b = record b { start = false; active = false; walk = None }
 
--- start as it is written and as it was: 0 stops the walk, 1 after 0 begins one, and 1 after 1 does nothing (Bus Master IDE 1.0, command register)
+-- start as it is written and as it was: 0 stops the walk, 1 after 0 begins one (Bus Master IDE 1.0, command register),
+-- and 1 after 1 does nothing (own)
 abbrev pub started : Bool → Bool → Bus → Bus
 started false was b = walk_stopped b
 started true false b = walk_begun b
@@ -58,9 +69,13 @@ started true true b = b
 abbrev pub command_written : ℕ → Bus → Bus
 command_written v b = started (has_bit START v) b.start (record b { inward = has_bit INWARD v })
 
--- after a write of the status register: a 1 clears error or interrupt (Bus Master IDE 1.0, status register)
+-- after a write of the status register: a 1 clears error or interrupt
+-- (Bus Master IDE 1.0, status register)
 abbrev pub status_written : ℕ → Bus → Bus
-status_written v b = record b { error = b.error && not (has_bit BUS_ERROR v); interrupt = b.interrupt && not (has_bit INTERRUPT v) }
+status_written v b = record b {
+  error = b.error && not (has_bit BUS_ERROR v);
+  interrupt = b.interrupt && not (has_bit INTERRUPT v);
+}
 
 -- after a write of a register of the bus master, which every phase of the drive takes
 abbrev pub bus_written : Reg → ℕ → Bus → Bus
@@ -75,11 +90,13 @@ bus_written reg.Device v b = b
 bus_written reg.Status v b = b
 bus_written reg.Alternate v b = b
 
--- after a write of the pointer: its two low bits are 0 (Bus Master IDE 1.0, descriptor table pointer register), and it stays while start is 1 (own)
+-- after a write of the pointer: its two low bits are 0 (Bus Master IDE 1.0, descriptor table pointer register),
+-- and it stays while start is 1 (own)
 abbrev pub pointer_written : ℕ → Bus → Bus
 pointer_written v b = if b.start then b else record b { pointer = v - v % 4 }
 
--- the bus master after the line was and is so: each rise sets the interrupt bit (Bus Master IDE 1.0, status register)
+-- the bus master after the line was and is so: each rise sets the interrupt bit
+-- (Bus Master IDE 1.0, status register)
 abbrev pub raised : Bool → Bool → Bus → Bus
 raised false true b = record b { interrupt = true }
 raised false false b = b

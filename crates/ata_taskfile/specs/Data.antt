@@ -58,24 +58,29 @@ left_in (Ready taken done left) = left
 abbrev pub word_in : Phase → List ℕ → ℕ
 word_in phase block = if is_given phase then slice_index block (256 - left_in phase) else 65535
 
--- the phase when the last word of a block was read: the next sector is due, or the command has ended (ATA/ATAPI-6, PIO data-in)
+-- the phase when the last word of a block was read: the next sector is due, or the command has ended
+-- (ATA/ATAPI-6, PIO data-in)
 abbrev pub block_read : Request → ℕ → Phase
 block_read order done = if nat_lt (done + 1) order.count then Busy (Good order) (done + 1) else Idle
 
 -- the phase after a word of a block was read
 abbrev pub word_given : Request → ℕ → ℕ → Phase
-word_given order done left = if nat_lt 1 left then Ready (Good order) done (left - 1) else block_read order done
+word_given order done left =
+    if nat_lt 1 left then Ready (Good order) done (left - 1) else block_read order done
 
--- the phase after a word of a block was written: after the last one the drive is at work on the block (ATA/ATAPI-6, PIO data-out)
+-- the phase after a word of a block was written: after the last one the drive is at work on the block
+-- (ATA/ATAPI-6, PIO data-out)
 abbrev pub word_taken : Request → ℕ → ℕ → Phase
-word_taken order done left = if nat_lt 1 left then Ready (Good order) done (left - 1) else Busy (Good order) (done + 1)
+word_taken order done left =
+    if nat_lt 1 left then Ready (Good order) done (left - 1) else Busy (Good order) (done + 1)
 
 -- the phase after a read of Data
 abbrev pub phase_after_read : Phase → Phase
 phase_after_read Reset = Reset
 phase_after_read Idle = Idle
 phase_after_read (Busy taken done) = Busy taken done
-phase_after_read (Ready (Good order) done left) = if gives_words order.form then word_given order done left else Ready (Good order) done left
+phase_after_read (Ready (Good order) done left) =
+    if gives_words order.form then word_given order done left else Ready (Good order) done left
 phase_after_read (Ready (Bad reason) done left) = Ready (Bad reason) done left
 
 -- the phase after a write of Data
@@ -83,7 +88,8 @@ abbrev pub phase_after_write : Phase → Phase
 phase_after_write Reset = Reset
 phase_after_write Idle = Idle
 phase_after_write (Busy taken done) = Busy taken done
-phase_after_write (Ready (Good order) done left) = if takes_words order.form then word_taken order done left else Ready (Good order) done left
+phase_after_write (Ready (Good order) done left) =
+    if takes_words order.form then word_taken order done left else Ready (Good order) done left
 phase_after_write (Ready (Bad reason) done left) = Ready (Bad reason) done left
 
 -- the block after a write of Data, which is ignored outside a transfer (own)

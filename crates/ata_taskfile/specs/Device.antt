@@ -18,7 +18,8 @@ pub record Cell : Type 0 where
   pub durable : List ℕ
   pub written : List (List ℕ)
 
--- a device: registers, bus master, the block in transfer in words, a cell for each sector, and the sectors it says it has
+-- a device: registers, bus master, the words of the block in transfer, a cell for each sector, and the sectors
+-- that it says it has
 pub record Device : Type 0 where
   pub file : TaskFile
   pub bus : Bus
@@ -28,7 +29,13 @@ pub record Device : Type 0 where
 
 -- a device at power-on over these cells, which has the sectors that it says (own)
 abbrev pub powered_on : List Cell → ℕ → Device
-powered_on cells sectors = record { file = power_on; bus = idle_bus; block = []; cells = cells; sectors = sectors }
+powered_on cells sectors = record {
+  file = power_on;
+  bus = idle_bus;
+  block = [];
+  cells = cells;
+  sectors = sectors;
+}
 
 -- the device with other registers; a rise of the line shows in the bus master
 abbrev pub with_file : TaskFile → Device → Device
@@ -71,7 +78,9 @@ after_wrote ResetBegun f d = with_file f (with_bus (bus_in_reset d.file.phase d.
 
 -- after a write to a register (ATA/ATAPI-6, I/O registers; Bus Master IDE 1.0, registers)
 abbrev pub after_write8 : Reg → ℕ → Device → Device
-after_write8 r v d = if is_of_bus r then with_bus (bus_written r v d.bus) d else after_wrote (wrote r v d.file) (after_write r v d.file) d
+after_write8 r v d = if is_of_bus r
+    then with_bus (bus_written r v d.bus) d
+    else after_wrote (wrote r v d.file) (after_write r v d.file) d
 
 -- what a read of Data answers
 abbrev pub word_read : Device → ℕ
@@ -87,7 +96,8 @@ after_read_word d = with_phase (phase_after_read d.file.phase) d
 
 -- after a write of Data (ATA/ATAPI-6, PIO data-out); there is no interrupt
 abbrev pub after_write_word : ℕ → Device → Device
-after_write_word w d = with_phase (phase_after_write d.file.phase) (record d { block = block_after_write w d.file.phase d.block })
+after_write_word w d =
+    with_phase (phase_after_write d.file.phase) (record d { block = block_after_write w d.file.phase d.block })
 
 -- what a read of the table pointer answers (Bus Master IDE 1.0, descriptor table pointer register)
 abbrev pub pointer_read : Device → ℕ

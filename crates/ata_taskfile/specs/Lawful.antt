@@ -49,7 +49,8 @@ abbrev pub moved_by : Option ℕ → ℕ
 moved_by None = 0
 moved_by (Some moved) = moved
 
--- how many sectors a walk may have moved: those that are done of a command that the bus master moves
+-- how many sectors a walk may have moved: those that are done of a command whose sectors the bus master
+-- moves
 abbrev pub movable_in : Phase → ℕ
 movable_in phase = if is_moving phase then position_of phase else 0
 
@@ -77,7 +78,7 @@ some_left_in Idle = 1
 some_left_in (Busy taken done) = 1
 some_left_in (Ready taken done left) = left
 
--- the count that a kind of command has: 1 or more sectors of a range, else the one count without a range
+-- a count that a kind of command has: 1 or more sectors of a range, else the one count without a range
 abbrev pub has_count : Kind → ℕ → Bool
 has_count kind count = if has_range kind then not (count == 0) else count == count_without_range kind
 
@@ -93,7 +94,8 @@ has_possible_order Idle = true
 has_possible_order (Busy taken done) = is_possible taken
 has_possible_order (Ready taken done left) = is_possible taken
 
--- the positions at which the drive is at work on so many sectors lie below this one: behind the last sector a written block or a transfer has still to end
+-- the positions at which the drive is at work on so many sectors lie below this one: behind the last sector a
+-- written block or a transfer has still to end
 abbrev pub work_end : Form → ℕ → ℕ
 work_end NoMove count = 1
 work_end PioIn count = count
@@ -139,7 +141,10 @@ pub record AreLawful (control device error : ℕ) (failed pending : Bool) (phase
   pub walking : is_some b.walk ≡ true → b.active ≡ true
   pub moved : moved_by b.walk ≤ movable_in phase
 
--- a task file and a bus master as every device has them: Device Control has no bits but HOB, SRST and nIEN, and SRST in reset alone; a command in hand has no Error and isn't failed, and one that was just taken has DEV at 0 and no interrupt; the pointer is a multiple of 4; only start lets active be 1, and only active a walk run; a walk has moved no more than its command has done
+-- a task file and a bus master as every device has them: Device Control has no bits but HOB, SRST and nIEN (86h),
+-- and SRST in reset alone; a command in hand has no Error and isn't failed, and one that was just taken has DEV at 0
+-- and no interrupt; the pointer is a multiple of 4; only start lets active be 1, and only active a walk run; a walk
+-- has moved no more than its command has done
 abbrev pub HasLawfulRegisters : TaskFile → Bus → Type 0
 HasLawfulRegisters f b = AreLawful f.control f.device f.error f.failed f.pending f.phase b
 
@@ -155,7 +160,8 @@ end_of Idle = 0
 end_of (Busy taken done) = end_in taken
 end_of (Ready taken done left) = end_in taken
 
--- how many words the block has: all 256 where it is given or was taken whole, those that came where it is wanted, else as many as it has
+-- how many words the block has: all 256 where it is given or was taken whole, those that came where it is wanted,
+-- else as many as it has
 abbrev pub words_in : Phase → ℕ → ℕ
 words_in Reset words = words
 words_in Idle words = words

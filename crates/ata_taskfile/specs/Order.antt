@@ -24,7 +24,14 @@ pub record Inputs : Type 0 where
 
 -- the inputs that stand in the registers
 abbrev pub inputs : TaskFile → Inputs
-inputs f = record { features = f.features; count = f.count; low = f.low; mid = f.mid; high = f.high; device = f.device }
+inputs f = record {
+  features = f.features;
+  count = f.count;
+  low = f.low;
+  mid = f.mid;
+  high = f.high;
+  device = f.device;
+}
 
 -- a row of the table of commands
 pub record Row : Type 0 where
@@ -40,7 +47,8 @@ narrow kind form = Some (record { kind = kind; form = form; extended = false })
 abbrev pub wide : Kind → Form → Option Row
 wide kind form = Some (record { kind = kind; form = form; extended = true })
 
--- the row of a command byte, where the table has one (ATA/ATAPI-6, command descriptions; own: which commands there are)
+-- the row of a command byte, where the table has one (ATA/ATAPI-6, command descriptions;
+-- own: which commands there are)
 abbrev pub row_of : ℕ → Option Row
 row_of byte =
     -- 20h READ SECTOR(S)
@@ -82,11 +90,14 @@ has_range Flush = false
 has_range Identify = false
 has_range Features = false
 
--- the first sector in 28 bits: the current bytes, and Device's low four bits (ATA/ATAPI-6, 28-bit addressing)
+-- the first sector in 28 bits: the current bytes, and Device's low four bits
+-- (ATA/ATAPI-6, 28-bit addressing)
 abbrev pub first_28 : Inputs → ℕ
-first_28 i = slice_index i.low 0 + 256 * slice_index i.mid 0 + 65536 * slice_index i.high 0 + 16777216 * (i.device % 16)
+first_28 i =
+    slice_index i.low 0 + 256 * slice_index i.mid 0 + 65536 * slice_index i.high 0 + 16777216 * (i.device % 16)
 
--- the first sector in 48 bits: the current bytes, and above them the previous ones (ATA/ATAPI-6, 48-bit Address feature set)
+-- the first sector in 48 bits: the current bytes, and above them the previous ones
+-- (ATA/ATAPI-6, 48-bit Address feature set)
 abbrev pub first_48 : Inputs → ℕ
 first_48 i =
     slice_index i.low 0 + 256 * slice_index i.mid 0 + 65536 * slice_index i.high 0
@@ -133,13 +144,20 @@ count_in row i = if has_range row.kind then count_named row.extended i else coun
 
 -- what a row asks for over the registers
 abbrev pub request_of : Row → Inputs → Request
-request_of row i = record { kind = row.kind; form = row.form; extended = row.extended; first = first_in row i; count = count_in row i }
+request_of row i = record {
+  kind = row.kind;
+  form = row.form;
+  extended = row.extended;
+  first = first_in row i;
+  count = count_in row i;
+}
 
 -- LBA is 1, as each 28-bit command with a range wants it (own: no other addressing)
 abbrev pub names_sectors : Inputs → Bool
 names_sectors i = has_bit LBA i.device
 
--- a subcommand of SET FEATURES that is accepted: 02h and 03h (ATA/ATAPI-6, SET FEATURES; own: these two, with any Count)
+-- a subcommand of SET FEATURES that is accepted: 02h and 03h (ATA/ATAPI-6, SET FEATURES;
+-- own: these two, with any Count)
 abbrev pub has_feature : Inputs → Bool
 has_feature i = (i.features == 2) || (i.features == 3)
 
@@ -159,7 +177,8 @@ within sectors request = if nat_lt sectors (request.first + request.count) then 
 -- the order of a row: its refusals in their order, else its request (ATA/ATAPI-6, ABRT bit)
 abbrev pub order_in : Option Row → Inputs → ℕ → Result Request Refused
 order_in None i sectors = Err Abort
-order_in (Some row) i sectors = if is_accepted row.kind row.extended i then within sectors (request_of row i) else Err Abort
+order_in (Some row) i sectors =
+    if is_accepted row.kind row.extended i then within sectors (request_of row i) else Err Abort
 
 -- the order of a command byte over the registers, on a drive of so many sectors
 abbrev pub order_of : ℕ → Inputs → ℕ → Result Request Refused

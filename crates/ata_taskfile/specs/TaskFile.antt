@@ -35,7 +35,7 @@ selects_absent f = has_bit DEV f.device
 abbrev pub line : TaskFile → Bool
 line f = f.pending && not (masks_line f)
 
--- the byte of Status in a phase: 80h busy, 58h data waits, 51h failed, 50h ready (own: one byte for each)
+-- the byte of Status in a phase: 80h busy, 58h data waits, 51h failed, 50h ready (own)
 abbrev pub status_in : Phase → Bool → ℕ
 status_in Reset failed = 128
 status_in (Busy taken done) failed = 128
@@ -77,7 +77,7 @@ value reg.Alternate f = status f
 value reg.BusCommand f = 0
 value reg.BusStatus f = 0
 
--- a read of Status ends the interrupt; no other read changes a register (ATA/ATAPI-6, Status register)
+-- after a read: Status ends the interrupt, and no other changes a thing (ATA/ATAPI-6, Status register)
 abbrev pub after_read : Reg → TaskFile → TaskFile
 after_read reg.Status f = record f { pending = false }
 after_read reg.Error f = f
@@ -90,7 +90,7 @@ after_read reg.Alternate f = f
 after_read reg.BusCommand f = f
 after_read reg.BusStatus f = f
 
--- the device is at work, and takes no write to the command block (ATA/ATAPI-6, BSY bit; own: no effect at all)
+-- the device is at work, and a write to the command block has no effect (ATA/ATAPI-6, BSY bit)
 abbrev pub is_at_work : Phase → Bool
 is_at_work Reset = true
 is_at_work (Busy taken done) = true
@@ -104,7 +104,7 @@ has_command (Busy taken done) = true
 has_command (Ready taken done left) = true
 has_command Idle = false
 
--- a write that has no effect (own: no Command write for the device that isn't there); Device Control is always written
+-- a write that has no effect, as one of Command for the device that isn't there (own)
 abbrev pub is_ignored : Reg → TaskFile → Bool
 is_ignored reg.Alternate f = false
 is_ignored reg.Status f = has_command f.phase || selects_absent f
@@ -117,11 +117,12 @@ is_ignored reg.Device f = is_at_work f.phase
 is_ignored reg.BusCommand f = true
 is_ignored reg.BusStatus f = true
 
--- a byte comes into a two-byte register, and the current one becomes the previous (ATA/ATAPI-6, 48-bit Address feature set)
+-- a byte comes into a two-byte register, and the current one becomes the previous
+-- (ATA/ATAPI-6, 48-bit Address feature set)
 abbrev pub moved_in : ℕ → List ℕ → List ℕ
 moved_in v bytes = v ∷ slice_index bytes 0 ∷ []
 
--- HOB is 0 after a write to the command block (ATA/ATAPI-6, Device Control register)
+-- HOB is 0 after a write to the command block; 7Fh is all bits but HOB (ATA/ATAPI-6, Device Control register)
 abbrev pub hob_cleared : TaskFile → TaskFile
 hob_cleared f = record f { control = bit_and f.control 127 }
 
@@ -132,11 +133,14 @@ in_reset Idle f = record f { phase = Reset; pending = false }
 in_reset (Busy taken done) f = record f { phase = Reset; pending = false }
 in_reset (Ready taken done left) f = record f { phase = Reset; pending = false }
 
--- after a Device Control write: HOB, SRST and nIEN are kept, and SRST at 1 begins a reset (ATA/ATAPI-6, Device Control register)
+-- after a Device Control write: HOB, SRST and nIEN, which are 86h, are kept, and SRST at 1 begins a reset
+-- (ATA/ATAPI-6, Device Control register)
 abbrev pub controlled : ℕ → TaskFile → TaskFile
-controlled v f = if has_bit SRST v then in_reset f.phase (record f { control = bit_and v 134 }) else record f { control = bit_and v 134 }
+controlled v f = if has_bit SRST v
+    then in_reset f.phase (record f { control = bit_and v 134 })
+    else record f { control = bit_and v 134 }
 
--- after a write that is taken; a command's byte is kept, and Error, the failed mark and the interrupt go
+-- after a write that is taken; Command keeps the byte, and Error, the failed mark and the interrupt go
 abbrev pub stored : Reg → ℕ → TaskFile → TaskFile
 stored reg.Error v f = record (hob_cleared f) { features = v }
 stored reg.Count v f = record (hob_cleared f) { count = moved_in v f.count }
@@ -179,13 +183,36 @@ wrote r v f = if is_ignored r f then Ignored else stored_as r v f
 
 -- power-on: in reset, and every byte 00h (own)
 abbrev pub power_on : TaskFile
-power_on = record { count = 0 ∷ 0 ∷ []; low = 0 ∷ 0 ∷ []; mid = 0 ∷ 0 ∷ []; high = 0 ∷ 0 ∷ []; features = 0; device = 0; control = 0; error = 0; command = 0; failed = false; pending = false; phase = Reset }
+power_on = record {
+  count = 0 ∷ 0 ∷ [];
+  low = 0 ∷ 0 ∷ [];
+  mid = 0 ∷ 0 ∷ [];
+  high = 0 ∷ 0 ∷ [];
+  features = 0;
+  device = 0;
+  control = 0;
+  error = 0;
+  command = 0;
+  failed = false;
+  pending = false;
+  phase = Reset;
+}
 
 -- the end of a reset: these values, and no interrupt (own)
 abbrev pub reset_ended : TaskFile → TaskFile
-reset_ended f = record f { count = 1 ∷ 0 ∷ []; low = 1 ∷ 0 ∷ []; mid = 0 ∷ 0 ∷ []; high = 0 ∷ 0 ∷ []; device = 0; features = 0; error = 1; failed = false; phase = Idle }
+reset_ended f = record f {
+  count = 1 ∷ 0 ∷ [];
+  low = 1 ∷ 0 ∷ [];
+  mid = 0 ∷ 0 ∷ [];
+  high = 0 ∷ 0 ∷ [];
+  features = 0;
+  device = 0;
+  error = 1;
+  failed = false;
+  phase = Idle;
+}
 
--- the Error byte of a refusal (own: which bit for which; the bits are those of ATA/ATAPI-6, Error register)
+-- the Error byte of a refusal (own; the bits are those of ATA/ATAPI-6, Error register)
 abbrev pub refusal_bit : Refused → ℕ
 refusal_bit Abort = ABRT
 refusal_bit NotFound = IDNF
@@ -206,7 +233,17 @@ announced phase f = record f { phase = phase; pending = true }
 abbrev pub byte_at : ℕ → ℕ → ℕ
 byte_at i n = n / 256 ^ i % 256
 
--- a sector's number in the address registers: 28 bits in the current bytes and Device, or 48 bits in both bytes (own: after which failure)
+-- a sector's number in the address registers: 28 bits in the current bytes and Device, whose high four bits (F0h)
+-- stay, or 48 bits in both bytes (own: after which failure)
 abbrev pub addressed : Bool → ℕ → TaskFile → TaskFile
-addressed false sector f = record f { low = byte_at 0 sector ∷ slice_index f.low 1 ∷ []; mid = byte_at 1 sector ∷ slice_index f.mid 1 ∷ []; high = byte_at 2 sector ∷ slice_index f.high 1 ∷ []; device = bit_or (bit_and f.device 240) (bit_and (byte_at 3 sector) 15) }
-addressed true sector f = record f { low = byte_at 0 sector ∷ byte_at 3 sector ∷ []; mid = byte_at 1 sector ∷ byte_at 4 sector ∷ []; high = byte_at 2 sector ∷ byte_at 5 sector ∷ [] }
+addressed false sector f = record f {
+  low = byte_at 0 sector ∷ slice_index f.low 1 ∷ [];
+  mid = byte_at 1 sector ∷ slice_index f.mid 1 ∷ [];
+  high = byte_at 2 sector ∷ slice_index f.high 1 ∷ [];
+  device = bit_or (bit_and f.device 240) (bit_and (byte_at 3 sector) 15);
+}
+addressed true sector f = record f {
+  low = byte_at 0 sector ∷ byte_at 3 sector ∷ [];
+  mid = byte_at 1 sector ∷ byte_at 4 sector ∷ [];
+  high = byte_at 2 sector ∷ byte_at 5 sector ∷ [];
+}
