@@ -1,4 +1,5 @@
 //! The bus master of the primary channel: its registers, its table pointer, and where a walk begins and ends.
+//! `specs/Bus.antt` says what each call means.
 
 ghost use Rattle.std.specs.Prelude.{◌≡◌, true};
 ghost use Rattle.ata_taskfile.specs.TaskFile.{is_of_bus};

@@ -23,8 +23,10 @@ pub fn accesses_keep_lawful()
 
 /// No access changes a sector, or how many sectors there are: only a step of the drive does.
 pub fn accesses_move_no_sector()
-    ensures cells { (access : AccessOf) (d : Device) → (accessed access d).cells ≡ d.cells }
-    ensures sectors { (access : AccessOf) (d : Device) → (accessed access d).sectors ≡ d.sectors }
+    ensures cells { (access : AccessOf) (d : Device) →
+        (accessed access d).cells ≡ d.cells }
+    ensures sectors { (access : AccessOf) (d : Device) →
+        (accessed access d).sectors ≡ d.sectors }
 {}
 
 /// Where an access lets the line rise, the bus master's interrupt bit is set after it.
@@ -35,11 +37,14 @@ pub fn a_rise_sets_the_interrupt_bit()
 
 /// A write that is ignored changes no register and no mark.
 pub fn ignored_writes_do_nothing()
-    ensures { (reg : RegOf) (v : ℕ) (f : FileOf) → wrote reg v f ≡ Ignored → after_write reg v f ≡ f }
+    ensures { (reg : RegOf) (v : ℕ) (f : FileOf) →
+        wrote reg v f ≡ Ignored → after_write reg v f ≡ f }
 {}
 
 /// The sectors of an order are all on the drive, and its kind, form and count go together.
 pub fn orders_fit_the_drive()
-    ensures within { (byte : ℕ) (i : Inputs) (sectors : ℕ) → end_in (taken (order_of byte i sectors)) ≤ sectors }
-    ensures possible { (byte : ℕ) (i : Inputs) (sectors : ℕ) → is_possible (taken (order_of byte i sectors)) ≡ true }
+    ensures within { (byte : ℕ) (i : Inputs) (sectors : ℕ) →
+        end_in (taken (order_of byte i sectors)) ≤ sectors }
+    ensures possible { (byte : ℕ) (i : Inputs) (sectors : ℕ) →
+        is_possible (taken (order_of byte i sectors)) ≡ true }
 {}

@@ -1,10 +1,11 @@
 //! One ATA device as its host sees it: the register file, the phase of the command in hand, and the trait
 //! `Ports`, by which every other crate reaches a device.
 //!
-//! Start with the enums below, then `registers` for the bits, `task_file` and `bus_master` for the calls and `ports` for
-//! the trait. `specs/TaskFile.antt` and `specs/Bus.antt` say what each call does to the registers,
-//! `specs/Device.antt` what an access does to the whole device, `specs/Order.antt` which order a command byte gives,
-//! and `specs/Lawful.antt` what every device keeps. `docs/drive.md` has the same rules as tables.
+//! Start with the enums below, then `registers` for the bits, `task_file` and `bus_master` for the calls, `transfer` for
+//! the words of Data, and `ports` for the trait. `specs/TaskFile.antt`, `Bus.antt` and `Data.antt` say what each call
+//! does to the registers and the phase, `specs/Device.antt` and `Access.antt` what an access does to the whole device,
+//! `specs/Order.antt` which order a command byte gives, and `specs/Lawful.antt` what every device keeps. `docs/drive.md`
+//! has the same rules as tables.
 
 #![tactic(auto)]
 
@@ -49,7 +50,7 @@ pub enum Reg {
     BusStatus,
 }
 
-/// What a command does.
+/// What a command does (ATA/ATAPI-6, command descriptions; own: which kinds there are).
 #[derive(Clone, Copy, Debug, PartialEq, Eq)]
 pub enum Kind {
     Read,
@@ -60,7 +61,7 @@ pub enum Kind {
     Features,
 }
 
-/// How a command's data moves.
+/// How a command's data moves (ATA/ATAPI-6, PIO data-in, PIO data-out and DMA).
 #[derive(Clone, Copy, Debug, PartialEq, Eq)]
 pub enum Form {
     NoMove,
@@ -70,7 +71,7 @@ pub enum Form {
     DmaOut,
 }
 
-/// Why a command is refused.
+/// Why a command is refused (ATA/ATAPI-6, Error register).
 #[derive(Clone, Copy, Debug, PartialEq, Eq)]
 pub enum Refused {
     /// The device doesn't have the command, or not with these registers.
@@ -79,7 +80,7 @@ pub enum Refused {
     NotFound,
 }
 
-/// What a command asks for.
+/// What a command asks for, read from its byte and the registers (ATA/ATAPI-6, inputs of a command).
 #[derive(Clone, Copy, Debug, PartialEq, Eq)]
 pub struct Request {
     pub kind: Kind,
@@ -92,14 +93,14 @@ pub struct Request {
     pub count: u32,
 }
 
-/// The order of a command that the device took: what it is to do, or why it refuses.
+/// The order of a command that the device took: what it is to do, or why it refuses (own).
 #[derive(Clone, Copy, Debug, PartialEq, Eq)]
 pub enum Taken {
     Good(Request),
     Bad(Refused),
 }
 
-/// Where the command in hand stands. The numbers are the sectors done so far, and in `Ready` the words of the
+/// Where the command in hand stands (own). The numbers are the sectors done so far, and in `Ready` the words of the
 /// block that are left.
 #[derive(Clone, Copy, Debug, PartialEq, Eq)]
 pub enum Phase {
@@ -112,7 +113,7 @@ pub enum Phase {
     Ready(Taken, u32, u16),
 }
 
-/// What a write to a register did.
+/// What a write to a register of the task file did (own).
 #[derive(Clone, Copy, Debug, PartialEq, Eq)]
 pub enum Wrote {
     Stored,
@@ -124,7 +125,8 @@ pub enum Wrote {
     ResetBegun,
 }
 
-/// One access of a guest to the device.
+/// One access of a guest to the device (ATA/ATAPI-6, I/O registers; Bus Master IDE 1.0, registers). The numbers are what
+/// is written.
 #[derive(Clone, Copy, Debug, PartialEq, Eq)]
 pub enum Access {
     Read8(Reg),
@@ -136,7 +138,8 @@ pub enum Access {
     Line,
 }
 
-/// What an access answers.
+/// What an access answers: `Nothing` to a write, a `Byte` of a register or 1 or 0 of the line, a `Word` of Data, or the
+/// `Long` pointer (own).
 #[derive(Clone, Copy, Debug, PartialEq, Eq)]
 pub enum Answer {
     Nothing,
@@ -145,14 +148,14 @@ pub enum Answer {
     Long(u32),
 }
 
-/// A step of the drive: one that goes well, or one at which the work in hand fails.
+/// A step of the drive (own): one that goes well, or one at which the work in hand fails.
 #[derive(Clone, Copy, Debug, PartialEq, Eq)]
 pub enum Step {
     Good,
     Bad,
 }
 
-/// What a step did.
+/// What a step did (own).
 #[derive(Clone, Copy, Debug, PartialEq, Eq)]
 pub enum Stepped {
     /// The step had no effect.

@@ -1,4 +1,4 @@
-//! The trait by which a device is reached.
+//! The trait by which a device is reached. `specs/Device.antt` says what each of its calls means.
 
 ghost use Rattle.std.specs.Prelude.{◌≡◌};
 ghost use Rattle.ata_taskfile.specs.Device.{Device, byte_read, after_read8, after_write8, word_read, after_read_word, after_write_word, pointer_read, after_write_pointer, line_read, is_pending, is_walking};

@@ -1,8 +1,10 @@
 //! The bits of the registers (ATA/ATAPI-6, Status, Error, Device and Device Control registers; Bus Master IDE 1.0,
-//! command and status registers).
+//! command and status registers), and which registers are the bus master's.
 
 ghost use Rattle.std.specs.Prelude.{◌≡◌};
-ghost use Rattle.ata_taskfile.specs.TaskFile.{has_bit};
+ghost use Rattle.ata_taskfile.specs.TaskFile.{has_bit, is_of_bus};
+
+use crate::Reg;
 
 /// Status: the device is at work, and takes no register but Device Control.
 pub const BSY: u8 = 0x80;
@@ -66,4 +68,23 @@ pub fn has_bit(bit: u8, byte: u8) -> bool
     ensures { result ≡ has_bit bit byte }
 {
     byte & bit != 0
+}
+
+impl Reg {
+    /// One of the two registers of the bus master, which aren't the task file's.
+    pub fn is_of_bus(self) -> bool
+        ensures { result ≡ is_of_bus self }
+    {
+        match self {
+            Reg::BusCommand | Reg::BusStatus => true,
+            Reg::Error
+            | Reg::Count
+            | Reg::Low
+            | Reg::Mid
+            | Reg::High
+            | Reg::Device
+            | Reg::Status
+            | Reg::Alternate => false,
+        }
+    }
 }

@@ -1,4 +1,4 @@
-//! The task file: a device's registers with the phase of its command.
+//! The task file: a device's registers with the phase of its command. `specs/TaskFile.antt` says what each call means.
 
 ghost use Rattle.std.specs.Prelude.{◌≡◌, false};
 ghost use Rattle.ata_taskfile.specs.TaskFile.{line, value, after_read, after_write, wrote, power_on, is_of_bus, reset_ended, refused, announced, ended_failed, addressed, shows_previous, holds_reset, masks_line, selects_absent, status, shown, is_at_work, is_ignored, stored_as, controlled, in_reset, control_wrote, has_command};
@@ -136,7 +136,8 @@ impl TaskFile {
 
     fn take_command(&mut self, byte: u8) -> Wrote
         ensures wrote { result ≡ Wrote.Command byte }
-        ensures after { self.new ≡ record self.old { command = byte; error = 0; failed = false; pending = false } }
+        ensures after { self.new
+            ≡ record self.old { command = byte; error = 0; failed = false; pending = false } }
     {
         self.command = byte;
         self.error = 0;
@@ -168,6 +169,13 @@ impl TaskFile {
         self.phase = Phase::Reset;
         self.pending = false;
         Wrote::ResetBegun
+    }
+
+    /// SRST is 1: a reset goes on until it is written as 0 (ATA/ATAPI-6, Device Control register).
+    pub fn holds_reset(&self) -> bool
+        ensures { result ≡ holds_reset self.now }
+    {
+        has_bit(SRST, self.control)
     }
 
     /// Ends a reset: the registers show that the device is there and well (own: these values).
@@ -264,13 +272,6 @@ impl TaskFile {
         ensures { result ≡ shows_previous self.now }
     {
         has_bit(HOB, self.control)
-    }
-
-    /// SRST is 1: a reset goes on until it is written as 0 (ATA/ATAPI-6, Device Control register).
-    pub fn holds_reset(&self) -> bool
-        ensures { result ≡ holds_reset self.now }
-    {
-        has_bit(SRST, self.control)
     }
 
     fn masks_line(&self) -> bool

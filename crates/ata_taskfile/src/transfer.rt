@@ -1,31 +1,12 @@
-//! What a register, a form and a phase say of the parts of a device, and how an order goes on word by word.
+//! How the data of an order moves: by its form, word by word through Data, and which phase moves sectors by the bus
+//! master. `specs/Data.antt` says the same.
 
 ghost use Rattle.std.specs.Prelude.{◌≡◌, ◌<◌};
-ghost use Rattle.ata_taskfile.specs.TaskFile.{is_of_bus};
-ghost use Rattle.ata_taskfile.specs.Data.{gives_words, takes_words, moves_by_bus, word_given, word_taken};
 ghost use Rattle.ata_taskfile.specs.Order.{taken};
+ghost use Rattle.ata_taskfile.specs.Data.{gives_words, takes_words, moves_by_bus, word_given, word_taken};
 ghost use Rattle.ata_taskfile.specs.Device.{is_moving};
 
-use crate::{Form, Phase, Refused, Reg, Request, Taken};
-
-impl Reg {
-    /// One of the two registers of the bus master, which aren't the task file's.
-    pub fn is_of_bus(self) -> bool
-        ensures { result ≡ is_of_bus self }
-    {
-        match self {
-            Reg::BusCommand | Reg::BusStatus => true,
-            Reg::Error
-            | Reg::Count
-            | Reg::Low
-            | Reg::Mid
-            | Reg::High
-            | Reg::Device
-            | Reg::Status
-            | Reg::Alternate => false,
-        }
-    }
-}
+use crate::{Form, Phase, Refused, Request, Taken};
 
 impl Form {
     /// The words are read from Data (ATA/ATAPI-6, PIO data-in).
