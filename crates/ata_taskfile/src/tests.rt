@@ -1,6 +1,8 @@
-//! Sequences of reads and writes through each phase, by hand from the rules of the registers.
+//! Sequences of reads and writes through each phase, by hand from the rules of docs/drive.md.
 
-use crate::{Bus, Form, Kind, Phase, Reg, Request, Taken, TaskFile, Wrote};
+use crate::Reg::{Alternate, BusCommand, BusStatus, Count, Device, Error, High, Low, Mid, Status};
+use crate::Wrote::{Command, Ignored, ResetBegun, Stored};
+use crate::{Bus, Form, Kind, Phase, Refused, Reg, Request, Taken, TaskFile, Wrote};
 
 // One access to the registers, with what it gives.
 #[derive(Clone, Copy, Debug, PartialEq, Eq)]
@@ -10,6 +12,7 @@ enum Act {
     Line(bool),
 }
 
+// The same access with what it gives on these registers.
 fn given(file: &mut TaskFile, act: Act) -> Act {
     match act {
         Act::Read(reg, _) if !reg.is_of_bus() => Act::Read(reg, file.read(reg)),
@@ -17,6 +20,17 @@ fn given(file: &mut TaskFile, act: Act) -> Act {
         Act::Line(_) => Act::Line(file.line()),
         other => other,
     }
+}
+
+// The first of these accesses that gives something else: its place, and what it gives.
+fn first_other(file: &mut TaskFile, sequence: &[Act]) -> Option<(usize, Act)> {
+    for (i, act) in sequence.iter().enumerate() {
+        let given = given(file, *act);
+        if given != *act {
+            return Some((i, given));
+        }
+    }
+    None
 }
 
 const READ: Taken = Taken::Good(Request {
@@ -27,24 +41,29 @@ const READ: Taken = Taken::Good(Request {
     count: 1,
 });
 
+const WRITE_DMA: Taken = Taken::Good(Request {
+    kind: Kind::Write,
+    form: Form::DmaOut,
+    extended: true,
+    first: 0,
+    count: 4,
+});
+
 // After a reset, with 7 and then 8 in Count, and an interrupt that pends.
 fn in_phase(phase: Phase) -> TaskFile {
     let mut file = TaskFile::power_on();
     file.end_reset();
-    file.write(Reg::Count, 7);
-    file.write(Reg::Count, 8);
+    file.write(Count, 7);
+    file.write(Count, 8);
     file.pending = true;
     file.phase = phase;
     file
 }
 
+// What a reset leaves, and the interrupt that a read of Status ends, and of Alternate Status doesn't.
 #[test]
 fn registers_in_idle(rt: HostRuntime) {
-    use Reg::{Alternate, Count, Device, Error, High, Low, Mid, Status};
-    use Wrote::{Command, Ignored, ResetBegun, Stored};
-
     let sequence = [
-        // What a reset leaves, and the interrupt that a read of Status ends.
         Act::Read(Alternate, 0x50),
         Act::Line(true),
         Act::Write(Alternate, 0x02, Stored),
@@ -54,11 +73,20 @@ fn registers_in_idle(rt: HostRuntime) {
         Act::Read(Status, 0x50),
         Act::Line(false),
         Act::Read(Error, 0x01),
+        Act::Read(Count, 8),
         Act::Read(Low, 0x01),
         Act::Read(Mid, 0x00),
         Act::Read(High, 0x00),
         Act::Read(Device, 0x00),
-        // The previous byte is shown with HOB, which a write to the command block clears.
+    ];
+    let mut file = in_phase(Phase::Idle);
+    assert_eq!(rt; first_other(&mut file, &sequence), None);
+}
+
+// The previous byte is shown with HOB, which a write to the command block clears.
+#[test]
+fn previous_bytes(rt: HostRuntime) {
+    let sequence = [
         Act::Read(Count, 8),
         Act::Write(Alternate, 0x80, Stored),
         Act::Read(Count, 7),
@@ -69,44 +97,64 @@ fn registers_in_idle(rt: HostRuntime) {
         Act::Read(Low, 1),
         Act::Write(Error, 2, Stored),
         Act::Read(Low, 3),
-        // Features can't be read. All bits of Device are kept; with DEV no command is taken, and HOB stays.
-        Act::Read(Error, 0x01),
+    ];
+    let mut file = in_phase(Phase::Idle);
+    assert_eq!(rt; first_other(&mut file, &sequence), None);
+}
+
+// All bits of Device are kept. With DEV both bytes of Status are 00h, no command is taken, and HOB stays.
+#[test]
+fn the_device_that_is_not_there(rt: HostRuntime) {
+    let sequence = [
         Act::Write(Device, 0xff, Stored),
         Act::Read(Status, 0x00),
         Act::Read(Alternate, 0x00),
         Act::Read(Device, 0xff),
         Act::Write(Alternate, 0x80, Stored),
         Act::Write(Status, 0x20, Ignored),
-        Act::Read(Low, 1),
+        Act::Read(Count, 7),
         Act::Write(Device, 0xef, Stored),
-        Act::Read(Low, 3),
-        // A command clears Error, and keeps Count and address.
-        Act::Write(Status, 0x20, Command(0x20)),
-        Act::Read(Error, 0x00),
         Act::Read(Count, 8),
-        Act::Read(Low, 3),
-        // A reset drops all but three bits of Device Control.
-        Act::Write(Alternate, 0xff, ResetBegun),
-        Act::Read(Status, 0x80),
-        Act::Read(Low, 1),
-        Act::Write(Alternate, 0x04, Stored),
-        Act::Read(Low, 3),
     ];
     let mut file = in_phase(Phase::Idle);
-    for (i, act) in sequence.iter().enumerate() {
-        assert_eq!(rt; given(&mut file, *act), *act, "access {i}");
-    }
-    assert_eq!(rt;
-        [file.features, file.command, file.control],
-        [0x02, 0x20, 0x04]
-    );
+    assert_eq!(rt; first_other(&mut file, &sequence), None);
+}
+
+// Features can't be read. A command clears Error, the interrupt and HOB, and keeps Features, Count and address.
+#[test]
+fn a_command_that_is_taken(rt: HostRuntime) {
+    let sequence = [
+        Act::Write(Error, 2, Stored),
+        Act::Read(Error, 0x01),
+        Act::Write(Alternate, 0x80, Stored),
+        Act::Write(Status, 0x20, Command(0x20)),
+        Act::Line(false),
+        Act::Read(Error, 0x00),
+        Act::Read(Count, 8),
+        Act::Read(Low, 1),
+    ];
+    let mut file = in_phase(Phase::Idle);
+    assert_eq!(rt; first_other(&mut file, &sequence), None);
+    assert_eq!(rt; [file.features, file.command], [0x02, 0x20]);
+}
+
+// A reset drops all but three bits of Device Control; HOB is one of the three.
+#[test]
+fn a_reset_in_idle(rt: HostRuntime) {
+    let sequence = [
+        Act::Write(Alternate, 0xff, ResetBegun),
+        Act::Read(Status, 0x80),
+        Act::Read(Count, 7),
+        Act::Write(Alternate, 0x04, Stored),
+        Act::Read(Count, 8),
+    ];
+    let mut file = in_phase(Phase::Idle);
+    assert_eq!(rt; first_other(&mut file, &sequence), None);
+    assert_eq!(rt; file.control, 0x04);
 }
 
 #[test]
 fn registers_after_a_failure(rt: HostRuntime) {
-    use Reg::{Alternate, Device, Error, Status};
-    use Wrote::{Command, Stored};
-
     let sequence = [
         Act::Read(Alternate, 0x51),
         Act::Line(true),
@@ -122,40 +170,48 @@ fn registers_after_a_failure(rt: HostRuntime) {
     ];
     let mut file = in_phase(Phase::Busy(READ, 0));
     file.end_failed(0x40);
-    for (i, act) in sequence.iter().enumerate() {
-        assert_eq!(rt; given(&mut file, *act), *act, "access {i}");
+    assert_eq!(rt; first_other(&mut file, &sequence), None);
+}
+
+// In Busy and in Reset no register but Device Control is written, and HOB stays.
+#[test]
+fn registers_while_at_work(rt: HostRuntime) {
+    let sequence = [
+        Act::Read(Alternate, 0x80),
+        Act::Line(true),
+        Act::Write(Alternate, 0x80, Stored),
+        Act::Write(Error, 9, Ignored),
+        Act::Write(Count, 9, Ignored),
+        Act::Write(Low, 9, Ignored),
+        Act::Write(Mid, 9, Ignored),
+        Act::Write(High, 9, Ignored),
+        Act::Write(Device, 0x1f, Ignored),
+        Act::Write(Status, 0x20, Ignored),
+        Act::Read(Count, 7),
+        Act::Read(Low, 0),
+        Act::Read(Device, 0),
+        Act::Write(Alternate, 0x02, Stored),
+        Act::Line(false),
+        Act::Read(Count, 8),
+        Act::Read(Low, 1),
+    ];
+    for phase in [Phase::Busy(READ, 0), Phase::Reset] {
+        let mut file = in_phase(phase);
+        assert_eq!(rt; first_other(&mut file, &sequence), None, "{phase:?}");
+        assert_eq!(rt; [file.features, file.command], [0, 0], "{phase:?}");
     }
 }
 
+// SRST as 1 begins a reset in Busy, which ends the interrupt; in Reset it does nothing more. SRST as 0 ends neither.
 #[test]
-fn registers_while_at_work(rt: HostRuntime) {
-    use Reg::{Alternate, Count, Device, Error, High, Low, Mid, Status};
-    use Wrote::{Ignored, ResetBegun, Stored};
-
-    // In Busy and in Reset no register but Device Control is written, and HOB stays; only SRST differs.
+fn resets_while_at_work(rt: HostRuntime) {
+    // The phase, what the write of SRST did, and the line after it.
     let cases = [
         (Phase::Busy(READ, 0), ResetBegun, false),
         (Phase::Reset, Stored, true),
     ];
     for (phase, reset, line) in cases {
         let sequence = [
-            Act::Read(Alternate, 0x80),
-            Act::Line(true),
-            Act::Write(Alternate, 0x80, Stored),
-            Act::Write(Error, 9, Ignored),
-            Act::Write(Count, 9, Ignored),
-            Act::Write(Low, 9, Ignored),
-            Act::Write(Mid, 9, Ignored),
-            Act::Write(High, 9, Ignored),
-            Act::Write(Device, 0x1f, Ignored),
-            Act::Write(Status, 0x20, Ignored),
-            Act::Read(Count, 7),
-            Act::Read(Low, 0),
-            Act::Read(Device, 0),
-            Act::Write(Alternate, 0x02, Stored),
-            Act::Line(false),
-            Act::Read(Count, 8),
-            Act::Read(Low, 1),
             Act::Write(Alternate, 0x04, reset),
             Act::Line(line),
             Act::Read(Status, 0x80),
@@ -165,18 +221,12 @@ fn registers_while_at_work(rt: HostRuntime) {
             Act::Write(Count, 9, Ignored),
         ];
         let mut file = in_phase(phase);
-        for (i, act) in sequence.iter().enumerate() {
-            assert_eq!(rt; given(&mut file, *act), *act, "{phase:?}, access {i}");
-        }
-        assert_eq!(rt; [file.features, file.command], [0, 0], "{phase:?}");
+        assert_eq!(rt; first_other(&mut file, &sequence), None, "{phase:?}");
     }
 }
 
 #[test]
 fn registers_while_data_waits(rt: HostRuntime) {
-    use Reg::{Alternate, Count, Device, Error, Status};
-    use Wrote::{Ignored, ResetBegun, Stored};
-
     let sequence = [
         Act::Read(Alternate, 0x58),
         Act::Line(true),
@@ -197,72 +247,66 @@ fn registers_while_data_waits(rt: HostRuntime) {
         Act::Write(Count, 1, Ignored),
     ];
     let mut file = in_phase(Phase::Ready(READ, 0, 256));
-    for (i, act) in sequence.iter().enumerate() {
-        assert_eq!(rt; given(&mut file, *act), *act, "access {i}");
-    }
+    assert_eq!(rt; first_other(&mut file, &sequence), None);
 }
 
 #[test]
 fn bus_registers(rt: HostRuntime) {
     // A register with what is written; then the command byte, the status byte and the walk's sectors.
     let cases = [
-        (Reg::BusCommand, 0xf8, 0x08, 0x06, None),
-        (Reg::BusCommand, 0x09, 0x09, 0x07, Some(0)),
-        (Reg::BusStatus, 0xf9, 0x09, 0x07, Some(0)),
-        (Reg::BusStatus, 0x02, 0x09, 0x05, Some(0)),
-        (Reg::BusCommand, 0x01, 0x01, 0x05, Some(0)),
-        (Reg::BusStatus, 0x04, 0x01, 0x01, Some(0)),
-        (Reg::BusCommand, 0x08, 0x08, 0x00, None),
-        (Reg::BusStatus, 0x01, 0x08, 0x00, None),
+        (BusCommand, 0xf8, 0x08, 0x06, None),
+        (BusCommand, 0x09, 0x09, 0x07, Some(0)),
+        (BusStatus, 0xf9, 0x09, 0x07, Some(0)),
+        (BusStatus, 0x02, 0x09, 0x05, Some(0)),
+        (BusCommand, 0x01, 0x01, 0x05, Some(0)),
+        (BusStatus, 0x04, 0x01, 0x01, Some(0)),
+        (BusCommand, 0x08, 0x08, 0x00, None),
+        (BusStatus, 0x01, 0x08, 0x00, None),
     ];
     let mut bus = Bus::power_on();
     bus.error = true;
     bus.note_line(false, true);
     for (reg, v, command, status, walk) in cases {
         bus.write(reg, v);
-        assert_eq!(rt; bus.read(Reg::BusCommand), command, "{reg:?} {v:x}");
-        assert_eq!(rt; bus.read(Reg::BusStatus), status, "{reg:?} {v:x}");
+        assert_eq!(rt; bus.read(BusCommand), command, "{reg:?} {v:x}");
+        assert_eq!(rt; bus.read(BusStatus), status, "{reg:?} {v:x}");
         assert_eq!(rt; bus.walk, walk, "{reg:?} {v:x}");
     }
 }
 
+// While start is 1 the pointer stays, and start written as 1 begins no other walk.
 #[test]
 fn a_walk_goes_on(rt: HostRuntime) {
     let mut bus = Bus::power_on();
     bus.write_pointer(0x0001_2347);
     assert_eq!(rt; bus.pointer, 0x0001_2344);
-    bus.write(Reg::BusCommand, 0x01);
+    bus.write(BusCommand, 0x01);
     bus.walk = Some(3);
-
-    // While start is 1 the pointer stays, and start written as 1 begins no other walk.
     bus.write_pointer(0x0009_0000);
     assert_eq!(rt; bus.pointer, 0x0001_2344);
-    bus.write(Reg::BusCommand, 0x09);
+    bus.write(BusCommand, 0x09);
     assert_eq!(rt; bus.walk, Some(3));
-
-    // A reset ends the walk of a command that the bus master moves, and leaves active.
-    let dma = Taken::Good(Request {
-        kind: Kind::Write,
-        form: Form::DmaOut,
-        extended: true,
-        first: 0,
-        count: 4,
-    });
-    for phase in [
-        Phase::Idle,
-        Phase::Busy(READ, 0),
-        Phase::Busy(Taken::Bad(crate::Refused::Abort), 0),
-    ] {
-        bus.reset_in(phase);
-        assert_eq!(rt; bus.walk, Some(3), "{phase:?}");
-    }
-    bus.reset_in(Phase::Busy(dma, 3));
-    assert_eq!(rt; bus.walk, None);
-    assert_eq!(rt; bus.read(Reg::BusStatus), 0x01);
-    bus.write(Reg::BusCommand, 0x00);
+    bus.write(BusCommand, 0x00);
     bus.write_pointer(0xffff_ffff);
-    assert_eq!(rt;
-        [bus.pointer, bus.read(Reg::BusStatus) as u32],
-        [0xffff_fffc, 0]
-    );
+    assert_eq!(rt; bus.pointer, 0xffff_fffc);
+}
+
+// A reset ends the walk of a command whose sectors the bus master moves, and leaves active.
+#[test]
+fn resets_and_walks(rt: HostRuntime) {
+    // The phase in which the reset begins, and the walk after it.
+    let cases = [
+        (Phase::Idle, Some(3)),
+        (Phase::Busy(READ, 0), Some(3)),
+        (Phase::Busy(Taken::Bad(Refused::Abort), 0), Some(3)),
+        (Phase::Busy(WRITE_DMA, 3), None),
+    ];
+    for (phase, walk) in cases {
+        let mut bus = Bus::power_on();
+        bus.write(BusCommand, 0x01);
+        bus.walk = Some(3);
+        bus.reset_in(phase);
+        assert_eq!(rt; bus.walk, walk, "{phase:?}");
+        assert_eq!(rt; bus.read(BusStatus), 0x01, "{phase:?}");
+    }
 }
