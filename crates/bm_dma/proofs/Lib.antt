@@ -1,4 +1,5 @@
 pub mod Lists
 pub mod Scattered
 pub mod Searching
+pub mod Bounds
 pub mod Named

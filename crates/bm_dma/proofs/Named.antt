@@ -1,5 +1,6 @@
 -- Which places a table names, and how many a short move has.
 use Rattle.std.proofs.Common.{ap, ◌≡◌, ℕ, zero, suc, ◌+◌, ◌*◌, ◌/◌, ◌-◌, ◌<◌, ◌≤◌, ◌==◌, Bool, true, false, Option, Some, None, List, [], All, length, drop, arith, refl, length-take}
+use Rattle.std.proofs.lemmas.Bool.{eqb-false}
 use Rattle.std.proofs.lemmas.Bool.Decides.{nat_tests}
 use Rattle.std.proofs.lemmas.List.Elements.{All-nil, All-append, All-from_get_or}
 use Rattle.std.proofs.lemmas.List.FromFn.{length-range_with_len, get_or-range_with_len}
@@ -9,7 +10,6 @@ use Rattle.bm_dma.specs.declared.moves.Moved.TheVariants.{Short}
 use Rattle.bm_dma.specs.Descriptor.{descriptor_in, is_good, places_of}
 use Rattle.bm_dma.specs.Run.{Run, bad_run, run_with, run_from, run_of, sector_places, is_tables_end, found_as}
 use Rattle.bm_dma.specs.Move.{moved_as, outcome_in, outcome}
-use Rattle.bm_dma.proofs.Searching.{from_ne}
 
 within : (d : Descriptor) (size : ℕ) → is_good d size ≡ true → d.base + d.count ≤ size
 within d size good = grind (arith, nat_tests)
@@ -58,7 +58,7 @@ short_in None pointer memory n e = cc
 short_in (Some moved) pointer memory n e =
     let run = run_of pointer memory in
     short_count (length (sector_places moved run) == 512) (is_tables_end moved run) run.ended (length (sector_places moved run)) n
-    (λ part. let not_all = from_ne (length (sector_places moved run)) 512 part in omega (arith, length-take 512 (drop (512 * moved) run.places))) e
+    (λ part. let not_all = eqb-false (length (sector_places moved run)) 512 part in omega (arith, length-take 512 (drop (512 * moved) run.places))) e
 
 -- a short move has fewer bytes than a sector
 pub short_below : (bus : Bus) (memory : List ℕ) (n : ℕ) → outcome bus memory ≡ Short n → n < 512

@@ -1,16 +1,16 @@
 -- The search for the places of a sector, as the code goes, finds what the run has.
-use Rattle.std.proofs.Common.{◌≡◌, ℕ, zero, suc, ◌+◌, ◌-◌, ◌*◌, ◌/◌, ◌<◌, ◌≤◌, ◌==◌, ◌⊎◌, min, Bool, true, false, ◌&&◌, ◌||◌, if◌then◌else◌, List, [], ◌++◌, length, take, drop, arith, refl, sym, ap, inl, inr, ◌∙◌, append_assoc, length-append, length-drop, length-take, get_or}
+use Rattle.std.proofs.Common.{◌≡◌, ℕ, zero, suc, ◌+◌, ◌-◌, ◌*◌, ◌/◌, ◌<◌, ◌≤◌, ◌==◌, min, Bool, true, false, ◌&&◌, ◌||◌, if◌then◌else◌, List, [], ◌++◌, length, take, drop, arith, refl, sym, ap, inl, inr, ◌∙◌, append_assoc, length-append, length-drop, length-take}
 use Rattle.byteorder.specs.Endian.{little_number}
 use Rattle.std.proofs.Math.Seq.{take-nil, drop-nil}
-use Rattle.std.proofs.lemmas.List.{append-nil, get_or-drop}
+use Rattle.std.proofs.lemmas.List.{append-nil}
 use Rattle.std.proofs.lemmas.List.FromFn.{length-range_with_len}
-use Rattle.std.proofs.lemmas.Bool.{cases_lt}
+use Rattle.std.proofs.lemmas.Bool.{cases_eq, eq-eqb, ne_eqb}
 use Rattle.std.proofs.lemmas.Bool.Decides.{nat_tests}
 use Rattle.bm_dma.specs.declared.descriptor.Descriptor.{Descriptor}
 use Rattle.bm_dma.specs.declared.search.Found.{Found}
 use Rattle.bm_dma.specs.declared.search.Found.TheVariants.{All, Ended, Bad}
 use Rattle.bm_dma.specs.Descriptor.{bytes_meant, descriptor_in, is_good, with_piece, places_of}
-use Rattle.bm_dma.specs.Run.{Run, run_with, run_from, run_of, sector_places, is_tables_end, found_as, found_in}
+use Rattle.bm_dma.specs.Run.{Run, run_with, run_from, run_of, sector_places, found_as, found_in}
 use Rattle.bm_dma.proofs.Lists.{take_both, drop_both}
 
 pub record Result : Type 0 where
@@ -51,18 +51,6 @@ meant_some : (n : ℕ) → 0 < bytes_meant n
 meant_some zero = omega arith
 meant_some (suc n) = omega arith
 
-eq_false : (a b : ℕ) → (a ≡ b → ⊥) → (a == b) ≡ false
-eq_false a b h = grind (arith, nat_tests)
-
-eq_true : (a b : ℕ) → a ≡ b → (a == b) ≡ true
-eq_true a b h = grind (arith, nat_tests)
-
-pub from_eq : (a b : ℕ) → (a == b) ≡ true → a ≡ b
-from_eq a b h = grind (arith, nat_tests)
-
-pub from_ne : (a b : ℕ) → (a == b) ≡ false → a ≡ b → ⊥
-from_ne a b h e = grind (arith, nat_tests)
-
 same_test : (a b c d : ℕ) → (a ≡ b → c ≡ d) → (c ≡ d → a ≡ b) → (a == b) ≡ (c == d)
 same_test a b c d there back = grind (arith, nat_tests)
 
@@ -82,7 +70,7 @@ bad_one : (skipped : ℕ) (found : List ℕ) → length found < 512 → result B
 bad_one skipped found few =
     let nothing : take (512 - length found) (drop skipped []) ≡ [] = ap (take (512 - length found)) (drop-nil skipped) ∙ take-nil (512 - length found) in
     let all : found ++ take (512 - length found) (drop skipped []) ≡ found = ap (λ xs. found ++ xs) nothing ∙ append-nil found in
-    rw all (rw (eq_false (length found) 512 (λ e. omega arith)) refl)
+    rw all (rw (ne_eqb (length found) 512 (λ e. omega arith)) refl)
 
 tests : (full at_end : Bool) (found : List ℕ) → (if full then result (All (true && at_end)) found else result Ended found) ≡ result (found_as full (true && at_end) true) found
 tests true at_end found = refl
@@ -105,12 +93,12 @@ both d skipped m found rest e =
     ap (λ xs. found ++ take (512 - length found) xs) parts ∙ ap (λ xs. found ++ xs) taken
     ∙ sym (append_assoc found (take (512 - length found) (drop skipped (places_of d))) (take m (drop (skipped - d.count) rest)))
 
-length_both : (d : Descriptor) (rest : List ℕ) → length (places_of d ++ rest) ≡ d.count + length rest
+pub length_both : (d : Descriptor) (rest : List ℕ) → length (places_of d ++ rest) ≡ d.count + length rest
 length_both d rest = omega (arith, length-append (places_of d) rest, length-range_with_len d.base d.count)
 
 never : (ended : Bool) (a b : ℕ) → (ended ≡ true → a ≡ b → ⊥) → false ≡ (ended && (a == b))
 never false a b apart = refl
-never true a b apart = sym (eq_false a b (apart refl))
+never true a b apart = sym (ne_eqb a b (apart refl))
 
 -- a sector that a descriptor completes, which is not the table's last
 completed : (d : Descriptor) (skipped : ℕ) (found : List ℕ) (run : Run) (rest : Result) → d.is_last ≡ false → HasPlace run → length found < 512
@@ -122,7 +110,7 @@ completed d skipped found run rest last has few full =
     let apart : false ≡ (run.ended && (length (places_of d ++ run.places) == skipped + (512 - length found))) =
     never run.ended (length (places_of d ++ run.places)) (skipped + (512 - length found))
     (λ ends e. let some = has ends in omega (arith, length_piece d skipped found, length_both d run.places)) in
-    rw (same, eq_true (length (with_piece d skipped found)) 512 full, last) (ap (λ end. result (All end) (with_piece d skipped found)) apart)
+    rw (same, eq-eqb (length (with_piece d skipped found)) 512 full, last) (ap (λ end. result (All end) (with_piece d skipped found)) apart)
 
 -- a descriptor that leaves places to find behind it
 passed : (d : Descriptor) (skipped : ℕ) (found : List ℕ) (run : Run) (rest : Result) → d.is_last ≡ false → length found < 512
@@ -135,16 +123,7 @@ passed d skipped found run rest last few part found_behind =
     same_test (length run.places) ((skipped - d.count) + (512 - length (with_piece d skipped found))) (length (places_of d ++ run.places)) (skipped + (512 - length found))
     (λ e. omega (arith, length_piece d skipped found, length_both d run.places))
     (λ e. omega (arith, length_piece d skipped found, length_both d run.places)) in
-    rw (eq_false (length (with_piece d skipped found)) 512 part, last, found_behind, whole, ends) refl
-
-cases_full : (n : ℕ) → (n ≡ 512) ⊎ (n ≡ 512 → ⊥)
-cases_full n = elim (cases_lt n 512) [
-  | inl low ↦ inr (λ e. omega arith)
-  | inr high ↦ elim (cases_lt 512 n) [
-    | inl above ↦ inr (λ e. omega arith)
-    | inr at ↦ inl (omega arith)
-  ]
-]
+    rw (ne_eqb (length (with_piece d skipped found)) 512 part, last, found_behind, whole, ends) refl
 
 -- one descriptor more
 good_step : (d : Descriptor) (skipped : ℕ) (found : List ℕ) (run : Run) (rest : Result) (last : Bool) → d.is_last ≡ last → HasPlace run → length found < 512
@@ -152,7 +131,7 @@ good_step : (d : Descriptor) (skipped : ℕ) (found : List ℕ) (run : Run) (res
     → good_one d (skipped + (512 - length found)) (with_piece d skipped found) rest
     ≡ expected skipped found (places_of d ++ (if last then [] else run.places)) (last || run.ended)
 good_step d skipped found run rest true last has few behind = last_one d skipped found rest last
-good_step d skipped found run rest false last has few behind = elim (cases_full (length (with_piece d skipped found))) [
+good_step d skipped found run rest false last has few behind = elim (cases_eq (length (with_piece d skipped found)) 512) [
   | inl full ↦ completed d skipped found run rest last has few full
   | inr part ↦ passed d skipped found run rest last few part (behind (omega (arith, length_piece d skipped found)))
 ]
@@ -221,7 +200,7 @@ pub completes : (n i at skipped end : ℕ) (memory found more : List ℕ) (d : D
     → search_from (n - i) at memory skipped found ≡ result (All last) more
 completes n i at skipped end memory found more d last below is good e piece full tables =
     let complete : length (with_piece d skipped found) ≡ 512 = sym (ap length piece) ∙ full in
-    at_one n i at skipped memory found d below is ∙ rw (good, eq_true (length (with_piece d skipped found)) 512 complete, piece, tables, e) refl
+    at_one n i at skipped memory found d below is ∙ rw (good, eq-eqb (length (with_piece d skipped found)) 512 complete, piece, tables, e) refl
 
 -- it is the table's last, and leaves places to find
 pub ends_table : (n i at skipped : ℕ) (memory found more : List ℕ) (d : Descriptor) → i < n → d ≡ descriptor_in (drop at memory)
@@ -229,7 +208,7 @@ pub ends_table : (n i at skipped : ℕ) (memory found more : List ℕ) (d : Desc
     → search_from (n - i) at memory skipped found ≡ result Ended more
 ends_table n i at skipped memory found more d below is good piece part last =
     let short : length (with_piece d skipped found) ≡ 512 → ⊥ = (λ e. part (ap length piece ∙ e)) in
-    at_one n i at skipped memory found d below is ∙ rw (good, eq_false (length (with_piece d skipped found)) 512 short, piece, last) refl
+    at_one n i at skipped memory found d below is ∙ rw (good, ne_eqb (length (with_piece d skipped found)) 512 short, piece, last) refl
 
 -- the search goes on behind it
 pub goes_on : (n i at next skipped rest : ℕ) (memory found more : List ℕ) (d : Descriptor) → i < n → d ≡ descriptor_in (drop at memory)
@@ -239,53 +218,9 @@ pub goes_on : (n i at next skipped rest : ℕ) (memory found more : List ℕ) (d
 goes_on n i at next skipped rest memory found more d below is good piece part last place left =
     let short : length (with_piece d skipped found) ≡ 512 → ⊥ = (λ e. part (ap length piece ∙ e)) in
     sym (at_one n i at skipped memory found d below is
-    ∙ rw (good, eq_false (length (with_piece d skipped found)) 512 short, piece, last, place, left) refl)
+    ∙ rw (good, ne_eqb (length (with_piece d skipped found)) 512 short, piece, last, place, left) refl)
 
 -- a piece never has more places than a sector
 pub piece_fits : (d : Descriptor) (skipped : ℕ) (found more : List ℕ) → length found < 512 → more ≡ with_piece d skipped found → (length more ≡ 512 → ⊥)
     → length more < 512
 piece_fits d skipped found more few piece part = omega (arith, ap length piece, length_piece d skipped found)
-
--- each is a byte
-abbrev pub AreBytes : List ℕ → Type 0
-AreBytes memory = (k : ℕ) → get_or memory k 0 < 256
-
-meant_few : (n : ℕ) → n < 65536 → bytes_meant n ≤ 65536
-meant_few zero few = omega arith
-meant_few (suc n) few = omega arith
-
-count_few : (at : ℕ) (memory : List ℕ) → AreBytes memory → (descriptor_in (drop at memory)).count ≤ 65536
-count_few at memory bytes =
-    let low : get_or (drop 4 (drop at memory)) 0 0 < 256 = rw (get_or-drop 4 (drop at memory) 0 0, get_or-drop at memory 4 0) (bytes (at + 4)) in
-    let high : get_or (drop 4 (drop at memory)) 1 0 < 256 = rw (get_or-drop 4 (drop at memory) 1 0, get_or-drop at memory 5 0) (bytes (at + 5)) in
-    meant_few (little_number 2 (drop 4 (drop at memory))) (omega arith)
-
-length_with : (d : Descriptor) (size k : ℕ) (run : Run) (good last : Bool) → is_good d size ≡ good → d.is_last ≡ last → d.count ≤ 65536
-    → length run.places ≤ k → length (run_with d size run).places ≤ 65536 + k
-length_with d size k run false last bad is small few = rw bad (omega arith)
-length_with d size k run true true good is small few = rw (good, is) (omega (arith, length_both d []))
-length_with d size k run true false good is small few = rw (good, is) (omega (arith, length_both d run.places))
-
--- how many places a table has at most
-length_run : (n at : ℕ) (memory : List ℕ) → AreBytes memory → length (run_from n at memory).places ≤ 65536 * n
-length_run zero at memory bytes = omega arith
-length_run (suc n) at memory bytes =
-    let rest = length_with (descriptor_in (drop at memory)) (length memory) (65536 * n) (run_from n (at + 8) memory)
-    (is_good (descriptor_in (drop at memory)) (length memory)) (descriptor_in (drop at memory)).is_last refl refl (count_few at memory bytes)
-    (length_run n (at + 8) memory bytes) in
-    omega arith
-
-full_of : (full last ended end : Bool) → found_as full last ended ≡ All end → full ≡ true
-full_of true last ended end e = refl
-full_of false last true end e = cc
-full_of false last false end e = cc
-
--- behind a whole sector there is a number for the next one
-pub one_more : (pointer moved : ℕ) (memory : List ℕ) (end : Bool) → AreBytes memory → length memory ≤ 16777216
-    → found_in moved (run_of pointer memory) ≡ All end → moved + 1 < 4294967296
-one_more pointer moved memory end bytes few e =
-    let run = run_of pointer memory in
-    let full = from_eq (length (sector_places moved run)) 512
-    (full_of (length (sector_places moved run) == 512) (is_tables_end moved run) run.ended end e) in
-    let many = length_run ((length memory - pointer) / 8) pointer memory bytes in
-    omega (arith, length-take 512 (drop (512 * moved) run.places), length-drop (512 * moved) run.places)

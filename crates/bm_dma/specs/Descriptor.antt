@@ -1,4 +1,5 @@
--- One descriptor of the table: 4 bytes of base, 2 bytes of count and a word with the mark of the end, each lowest byte first.
+-- One descriptor of the table: 4 bytes of base, 2 bytes of count and a word with the mark of the end, each lowest
+-- byte first.
 use Rattle.std.specs.Prelude.{ℕ, zero, suc, ◌+◌, ◌-◌, ◌%◌, ◌==◌, Bool, not, ◌&&◌, nat_le, bit_and, List, ◌++◌, length, take, drop}
 use Rattle.std.specs.List.{range_with_len}
 use Rattle.byteorder.specs.Endian.{little_number}
@@ -18,7 +19,8 @@ descriptor_in bytes = record {
   is_last = not (bit_and (little_number 2 (drop 6 bytes)) END_OF_TABLE == 0);
 }
 
--- not bad: base and count are even (Bus Master IDE 1.0, descriptor table), and its bytes are all in a memory of so many (own)
+-- not bad: base and count are even (Bus Master IDE 1.0, descriptor table), and its bytes are all in a memory of so
+-- many (own)
 abbrev pub is_good : Descriptor → ℕ → Bool
 is_good d size = (d.base % 2 == 0) && ((d.count % 2 == 0) && nat_le (d.base + d.count) size)
 
@@ -26,6 +28,6 @@ is_good d size = (d.base % 2 == 0) && ((d.count % 2 == 0) && nat_le (d.base + d.
 abbrev pub places_of : Descriptor → List ℕ
 places_of d = range_with_len d.base d.count
 
--- the places of a sector that were found, and those that a descriptor has for it behind its first so many
+-- the places of a sector that were found, and those that a descriptor has for it behind its first `skipped`
 abbrev pub with_piece : Descriptor → ℕ → List ℕ → List ℕ
 with_piece d skipped found = found ++ take (512 - length found) (drop skipped (places_of d))

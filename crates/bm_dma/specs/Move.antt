@@ -37,12 +37,13 @@ outcome b memory = outcome_in b.walk b.pointer memory
 abbrev pub ended : Bus → Bus
 ended b = record b { active = false; walk = None }
 
--- the bus master after what was found of the sector behind so many: a bad descriptor is an error (own), and the walk is over where the table is
+-- the bus master after what was found of the sector behind so many: the walk is over where the table is, and a bad
+-- descriptor is an error (own)
 abbrev pub bus_after : Found → ℕ → Bus → Bus
 bus_after (All false) moved b = record b { walk = Some (moved + 1) }
 bus_after (All true) moved b = ended b
 bus_after Ended moved b = ended b
-bus_after Bad moved b = record b { active = false; error = true; walk = None }
+bus_after Bad moved b = ended (record b { error = true })
 
 -- the bus master after moving the next sector of such a walk; without one nothing changes (own)
 abbrev pub bus_in : Option ℕ → List ℕ → Bus → Bus

@@ -14,19 +14,23 @@ pub record Run : Type 0 where
 abbrev pub bad_run : Run
 bad_run = record { places = []; ended = false }
 
--- a descriptor and what stands behind it, which isn't looked at where the descriptor is bad or the table's last
+-- a descriptor and what stands behind it, which doesn't count where the descriptor is bad or the table's last
 abbrev pub run_with : Descriptor → ℕ → Run → Run
 run_with d size rest = if is_good d size
-    then record { places = places_of d ++ (if d.is_last then [] else rest.places); ended = d.is_last || rest.ended }
+    then record {
+      places = places_of d ++ (if d.is_last then [] else rest.places);
+      ended = d.is_last || rest.ended;
+    }
     else bad_run
 
--- the run from a place on, behind which so many descriptors are in memory; the next one isn't, and so is bad (own)
+-- the run from a place on, from which so many descriptors are in memory; the next one isn't, and so is bad (own)
 abbrev pub run_from : ℕ → ℕ → List ℕ → Run
 run_from zero at memory = bad_run
-run_from (suc n) at memory = run_with (descriptor_in (drop at memory)) (length memory) (run_from n (at + 8) memory)
+run_from (suc n) at memory =
+    run_with (descriptor_in (drop at memory)) (length memory) (run_from n (at + 8) memory)
 
--- the descriptor run of the table at the pointer, up to the end mark or the first bad descriptor (Bus Master IDE 1.0, descriptor table); it is
--- finite, since it has no more descriptors than memory has room for
+-- the descriptor run of the table at the pointer, up to the end mark or the first bad descriptor (Bus Master IDE 1.0,
+-- descriptor table); it is finite, since it has no more descriptors than memory has room for
 abbrev pub run_of : ℕ → List ℕ → Run
 run_of pointer memory = run_from ((length memory - pointer) / 8) pointer memory
 

@@ -10,8 +10,8 @@ ghost use Rattle.bm_dma.specs.Move.{outcome};
 /// A run is its first descriptor with the run behind it, and none where the descriptor isn't all in memory.
 pub fn runs_begin_with_a_descriptor()
     ensures first { (pointer : ℕ) (memory : List ℕ) → pointer + 8 ≤ length memory →
-        run_of pointer memory ≡ run_with (descriptor_in (drop pointer memory)) (length memory)
-        (run_of (pointer + 8) memory) }
+        run_of pointer memory
+        ≡ run_with (descriptor_in (drop pointer memory)) (length memory) (run_of (pointer + 8) memory) }
     ensures past { (pointer : ℕ) (memory : List ℕ) → length memory < pointer + 8 →
         run_of pointer memory ≡ bad_run }
 {}
@@ -24,5 +24,6 @@ pub fn places_are_in_memory()
 
 /// A short move has fewer bytes than a sector.
 pub fn short_moves_are_below_a_sector()
-    ensures below { (bus : Bus) (memory : List ℕ) (n : ℕ) → outcome bus memory ≡ Short n → n < 512 }
+    ensures below { (bus : Bus) (memory : List ℕ) (n : ℕ) →
+        outcome bus memory ≡ Short n → n < 512 }
 {}

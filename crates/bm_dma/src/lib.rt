@@ -1,8 +1,9 @@
 //! The guest's memory, and how the bus master moves sectors between it and the drive.
 //!
 //! Start with `GuestMemory`, then `move_in` and `move_out`, each of which moves one sector by the descriptor table.
-//! `specs/Descriptor.antt` says what a descriptor is and when it is bad, `specs/Run.antt` which places in memory a table
-//! names, and `specs/Move.antt` what moving a sector answers and changes. `docs/drive.md` has the same rules as tables.
+//! `specs/Descriptor.antt` says what a descriptor is and when it is bad, `specs/Run.antt` which places in memory a
+//! table names, and `specs/Move.antt` what moving a sector answers and changes. `docs/drive.md` has the same rules as
+//! tables.
 
 #![tactic(auto)]
 

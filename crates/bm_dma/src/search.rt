@@ -8,11 +8,8 @@ ghost use Rattle.bm_dma.specs.Run.{run_of, sector_places, found_in};
 use crate::descriptor::{DESCRIPTOR_BYTES, Descriptor};
 use arrayvec::ArrayVec;
 
-/// How many places a sector takes.
-pub(crate) const SECTOR_BYTES: usize = 512;
-
-/// The addresses of the bytes of one sector, in order, as far as they were found.
-pub(crate) type Places = ArrayVec<u32, SECTOR_BYTES>;
+/// The addresses of the 512 bytes of one sector, in order, as far as they were found.
+pub(crate) type Places = ArrayVec<u32, 512>;
 
 /// How a search for the places of a sector ended.
 #[derive(Clone, Copy)]
@@ -36,13 +33,13 @@ pub(crate) fn find_places(memory: &[u8], pointer: u32, moved: u32, places: &mut 
 {
     let size = memory.len();
     let top = pointer as usize;
-    let mut skipped = moved as usize * SECTOR_BYTES;
+    let mut skipped = moved as usize * 512;
     for i in 0..size.saturating_sub(top) / DESCRIPTOR_BYTES {
         let descriptor = Descriptor::read(memory, top + DESCRIPTOR_BYTES * i);
         if !descriptor.is_good(size) {
             return Found::Bad;
         }
-        let end = skipped + (SECTOR_BYTES - places.len());
+        let end = skipped + (512 - places.len());
         add_piece(&descriptor, skipped, end, places);
         if places.is_full() {
             return Found::All(descriptor.ends_table_at(end));

@@ -1,6 +1,8 @@
 use Rattle.std.proofs.Common.{◌≡◌, ◌∙◌, ◌+◌, ◌-◌, ◌*◌, ◌/◌, sym, arith, length}
+use Rattle.std.proofs.lemmas.Bool.{eqb-true, eqb-false}
 use Rattle.bm_dma.specs.declared.search.Found.TheVariants.{All, Ended, Bad}
-use Rattle.bm_dma.proofs.Searching.{meets_end, meets_bad, completes, ends_table, goes_on, piece_fits, found_all, one_more, from_eq, from_ne}
+use Rattle.bm_dma.proofs.Searching.{meets_end, meets_bad, completes, ends_table, goes_on, piece_fits, found_all}
+use Rattle.bm_dma.proofs.Bounds.{one_more}
 use Rattle.bm_dma.proofs.search.find_places.Goals as goal
 
 pub returns : goal.returns
@@ -19,7 +21,7 @@ returns-then-not-is_good c =
 
 pub returns-then-is_full : goal.returns-then-is_full
 returns-then-is_full c =
-    let full : length c.add_piece.new.places.items ≡ 512 = from_eq (length c.add_piece.new.places.items) 512 (sym c.is_full.ensures.value ∙ c.if-is_full.true) in
+    let full : length c.add_piece.new.places.items ≡ 512 = eqb-true (length c.add_piece.new.places.items) 512 (sym c.is_full.ensures.value ∙ c.if-is_full.true) in
     let all = found_all c.args.pointer c.args.moved c.args.memory.now (All c.ends_table_at.result) c.add_piece.new.places.items
     (sym c.loop-i.invariant.rest ∙ completes ((length c.args.memory.now - c.args.pointer) / 8) c.loop-i.i (c.args.pointer + 8 * c.loop-i.i) c.loop-i.skipped
     (c.loop-i.skipped + (512 - c.len.result)) c.args.memory.now c.loop-i.places.items c.add_piece.new.places.items c.read-descriptor.result c.ends_table_at.result
@@ -32,7 +34,7 @@ returns-then-is_full c =
 
 pub returns-then-descriptor : goal.returns-then-descriptor
 returns-then-descriptor c =
-    let part : length c.add_piece.new.places.items ≡ 512 → ⊥ = from_ne (length c.add_piece.new.places.items) 512 (sym c.is_full.ensures.value ∙ c.if-is_full.false) in
+    let part : length c.add_piece.new.places.items ≡ 512 → ⊥ = eqb-false (length c.add_piece.new.places.items) 512 (sym c.is_full.ensures.value ∙ c.if-is_full.false) in
     let all = found_all c.args.pointer c.args.moved c.args.memory.now Ended c.add_piece.new.places.items
     (sym c.loop-i.invariant.rest ∙ ends_table ((length c.args.memory.now - c.args.pointer) / 8) c.loop-i.i (c.args.pointer + 8 * c.loop-i.i) c.loop-i.skipped
     c.args.memory.now c.loop-i.places.items c.add_piece.new.places.items c.read-descriptor.result
@@ -41,7 +43,7 @@ returns-then-descriptor c =
 
 pub loop-i-preserved : goal.loop-i-preserved
 loop-i-preserved c =
-    let part : length c.add_piece.new.places.items ≡ 512 → ⊥ = from_ne (length c.add_piece.new.places.items) 512 (sym c.is_full.ensures.value ∙ c.if-is_full.false) in
+    let part : length c.add_piece.new.places.items ≡ 512 → ⊥ = eqb-false (length c.add_piece.new.places.items) 512 (sym c.is_full.ensures.value ∙ c.if-is_full.false) in
     record {
       few = piece_fits c.read-descriptor.result c.loop-i.skipped c.loop-i.places.items c.add_piece.new.places.items c.loop-i.invariant.few c.add_piece.ensures.piece part;
       low = omega arith;
