@@ -103,7 +103,7 @@ first_48 i =
     slice_index i.low 0 + 256 * slice_index i.mid 0 + 65536 * slice_index i.high 0
     + 16777216 * slice_index i.low 1 + 4294967296 * slice_index i.mid 1 + 1099511627776 * slice_index i.high 1
 
--- a count as it is written, where 0 means the most that the register can't say
+-- a count as it is written, where 0 means this number, which the register can't say
 abbrev pub count_or : ℕ → ℕ → ℕ
 count_or most n = if n == 0 then most else n
 
