@@ -6,6 +6,6 @@ use Rattle.fill_bitmap.specs.declared.area.Area.{Area}
 abbrev pub next_block : Area → ℕ → ℕ
 next_block area s = (s / area.block + 1) * area.block
 
--- where the first piece of the sectors from `first` up to `end` ends: at the next block, or at `end` (own)
+-- where the first piece of the sectors from `first` to `end` ends: at the next block, or at `end` (own)
 abbrev pub piece_end : Area → ℕ → ℕ → ℕ
 piece_end area first end = min (next_block area first) end

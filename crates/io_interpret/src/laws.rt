@@ -1,13 +1,14 @@
 //! Laws that show what the definitions mean. Each holds of every value, and no code runs.
 
-ghost use Rattle.std.specs.Prelude.{◌≡◌, ◌<◌, ◌≤◌, ◌+◌, ◌↔◌, ◌||◌, ℕ, Bool, true, false, List};
+ghost use Rattle.std.specs.Prelude.{◌≡◌, ◌<◌, ◌≤◌, ◌+◌, ◌↔◌, ℕ, Bool, true, false, List};
+ghost use Rattle.ata_taskfile.specs.declared.Kind.TheVariants.{Read, Write};
 ghost use Rattle.ata_taskfile.specs.declared.Request.{Request};
 ghost use Rattle.ata_taskfile.specs.Order.{has_range};
 ghost use Rattle.fill_bitmap.specs.declared.area.Area.{Area};
 ghost use Rattle.fill_bitmap.specs.Area.{IsSuitable, reserved_of};
 ghost use Rattle.fill_bitmap.specs.Bitmap.{Sets};
 ghost use Rattle.io_interpret.specs.Blocks.{is_empty_at, empty_block, touches_empty};
-ghost use Rattle.io_interpret.specs.Class.{class_of_request, is_read, is_write, touches};
+ghost use Rattle.io_interpret.specs.Class.{class_of_request, touches};
 ghost use Rattle.io_interpret.specs.Piece.{piece_end};
 ghost use Rattle.io_interpret.specs.declared.class.Class.TheVariants.{Local, Reserved};
 
@@ -34,7 +35,8 @@ pub fn reserved_commands_end_above_the_first_reserved_sector()
 
 /// A read or write that is Local touches no empty block.
 pub fn local_reads_and_writes_touch_no_empty_block()
-    ensures { (request : Request) (area : Area) (sets : Sets) →
-        (is_read request.kind || is_write request.kind) ≡ true →
+    ensures read { (request : Request) (area : Area) (sets : Sets) → request.kind ≡ Read →
+        class_of_request request area sets ≡ Local → touches request area sets ≡ false }
+    ensures write { (request : Request) (area : Area) (sets : Sets) → request.kind ≡ Write →
         class_of_request request area sets ≡ Local → touches request area sets ≡ false }
 {}

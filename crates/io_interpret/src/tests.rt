@@ -8,7 +8,7 @@ ghost use Rattle.fill_bitmap.specs.Area.{IsSuitable, blocks_of};
 ghost use Rattle.fill_bitmap.specs.Bitmap.{blocks_in};
 
 use crate::Class::{FillFirst, Local, Other, Redirected, Reserved, Settle};
-use crate::{Piece, classify, first_piece};
+use crate::{Class, Piece, classify, first_piece};
 use ata_taskfile::{Form, Kind, Refused, Request};
 use fill_bitmap::{Area, Bitmap, area_of};
 use std::alloc::{AllocError, Global};
@@ -52,10 +52,31 @@ fn order(kind: Kind, first: u64, count: u32) -> Result<Request, Refused> {
     })
 }
 
+// First sector and count of a range; the classes of a read, a write and a verify of it.
+type RangeRow = (u64, u32, [Class; 3]);
+
+// The first of these rows whose classes are others, with the classes that it has.
+fn first_other_class(rows: &[RangeRow], area: &Area, bitmap: &Bitmap) -> Option<RangeRow>
+    requires suitable { IsSuitable area.now }
+    requires blocks { blocks_in bitmap.now ≡ blocks_of area.now }
+{
+    for (first, count, classes) in rows {
+        let found = [
+            classify(&order(Kind::Read, *first, *count), area, bitmap),
+            classify(&order(Kind::Write, *first, *count), area, bitmap),
+            classify(&order(Kind::Verify, *first, *count), area, bitmap),
+        ];
+        if found != *classes {
+            return Some((*first, *count, found));
+        }
+    }
+    None
+}
+
 #[test]
 fn ranges_in_blocks_of_8(rt: HostRuntime) -> Result<(), Fail> {
-    // First sector and count; the classes of a read, a write and a verify. Empty are sectors 8 to 15, R is 34.
-    let cases = [
+    // Empty are sectors 8 to 15, R is 34.
+    let rows = [
         (0, 8, [Local, Local, Local]),
         (7, 1, [Local, Local, Local]),
         (7, 2, [Redirected, FillFirst, Local]),
@@ -84,76 +105,67 @@ fn ranges_in_blocks_of_8(rt: HostRuntime) -> Result<(), Fail> {
     let Some(area) = three_blocks(8, 24, 37) else {
         panic!(rt; "no area")
     };
-    for (first, count, [read, write, verify]) in cases {
-        assert_eq!(rt;
-            classify(&order(Kind::Read, first, count), &area, &bitmap),
-            read,
-            "{first} {count}"
-        );
-        assert_eq!(rt;
-            classify(&order(Kind::Write, first, count), &area, &bitmap),
-            write,
-            "{first} {count}"
-        );
-        assert_eq!(rt;
-            classify(&order(Kind::Verify, first, count), &area, &bitmap),
-            verify,
-            "{first} {count}"
-        );
-    }
+    assert_eq!(rt; first_other_class(&rows, &area, &bitmap), None);
     Ok(())
 }
 
 #[test]
-fn ranges_in_larger_blocks(rt: HostRuntime) -> Result<(), Fail> {
-    // Sectors of block, image and disk, first sector and count; the classes of a read, a write and a verify.
-    let cases = [
-        // Empty are sectors 16 to 31, R is 58.
-        (16, 48, 61, 8, 8, [Local, Local, Local]),
-        (16, 48, 61, 15, 2, [Redirected, FillFirst, Local]),
-        (16, 48, 61, 31, 1, [Redirected, FillFirst, Local]),
-        (16, 48, 61, 32, 26, [Local, Local, Local]),
-        (16, 48, 61, 0, 58, [Redirected, FillFirst, Local]),
-        (16, 48, 61, 57, 2, [Reserved, Reserved, Reserved]),
-        (16, 48, 61, 0, 61, [Reserved, Reserved, Reserved]),
-        // Empty are sectors 32 to 63, R is 106.
-        (32, 96, 109, 16, 16, [Local, Local, Local]),
-        (32, 96, 109, 31, 2, [Redirected, FillFirst, Local]),
-        (32, 96, 109, 63, 1, [Redirected, FillFirst, Local]),
-        (32, 96, 109, 64, 42, [Local, Local, Local]),
-        (32, 96, 109, 0, 106, [Redirected, FillFirst, Local]),
-        (32, 96, 109, 105, 2, [Reserved, Reserved, Reserved]),
-        (32, 96, 109, 0, 109, [Reserved, Reserved, Reserved]),
-        // Empty are sectors 64 to 127, R is 202.
-        (64, 192, 205, 32, 32, [Local, Local, Local]),
-        (64, 192, 205, 63, 2, [Redirected, FillFirst, Local]),
-        (64, 192, 205, 127, 1, [Redirected, FillFirst, Local]),
-        (64, 192, 205, 128, 74, [Local, Local, Local]),
-        (64, 192, 205, 0, 202, [Redirected, FillFirst, Local]),
-        (64, 192, 205, 201, 2, [Reserved, Reserved, Reserved]),
-        (64, 192, 205, 0, 205, [Reserved, Reserved, Reserved]),
+fn ranges_in_blocks_of_16(rt: HostRuntime) -> Result<(), Fail> {
+    // Empty are sectors 16 to 31, R is 58.
+    let rows = [
+        (8, 8, [Local, Local, Local]),
+        (15, 2, [Redirected, FillFirst, Local]),
+        (31, 1, [Redirected, FillFirst, Local]),
+        (32, 26, [Local, Local, Local]),
+        (0, 58, [Redirected, FillFirst, Local]),
+        (57, 2, [Reserved, Reserved, Reserved]),
+        (0, 61, [Reserved, Reserved, Reserved]),
     ];
     let bitmap = middle_empty(rt.alloc())?;
-    for (block, image, disk, first, count, [read, write, verify]) in cases {
-        let Some(area) = three_blocks(block, image, disk) else {
-            panic!(rt; "{block}")
-        };
-        assert_eq!(rt;
-            classify(&order(Kind::Read, first, count), &area, &bitmap),
-            read,
-            "{block} {first} {count}"
-        );
-        assert_eq!(rt;
-            classify(&order(Kind::Write, first, count), &area, &bitmap),
-            write,
-            "{block} {first} {count}"
-        );
-        assert_eq!(rt;
-            classify(&order(Kind::Verify, first, count), &area, &bitmap),
-            verify,
-            "{block} {first} {count}"
-        );
-    }
+    let Some(area) = three_blocks(16, 48, 61) else {
+        panic!(rt; "no area")
+    };
+    assert_eq!(rt; first_other_class(&rows, &area, &bitmap), None);
+    Ok(())
+}
+
+#[test]
+fn ranges_in_blocks_of_32(rt: HostRuntime) -> Result<(), Fail> {
+    // Empty are sectors 32 to 63, R is 106.
+    let rows = [
+        (16, 16, [Local, Local, Local]),
+        (31, 2, [Redirected, FillFirst, Local]),
+        (63, 1, [Redirected, FillFirst, Local]),
+        (64, 42, [Local, Local, Local]),
+        (0, 106, [Redirected, FillFirst, Local]),
+        (105, 2, [Reserved, Reserved, Reserved]),
+        (0, 109, [Reserved, Reserved, Reserved]),
+    ];
+    let bitmap = middle_empty(rt.alloc())?;
+    let Some(area) = three_blocks(32, 96, 109) else {
+        panic!(rt; "no area")
+    };
+    assert_eq!(rt; first_other_class(&rows, &area, &bitmap), None);
+    Ok(())
+}
+
+#[test]
+fn ranges_in_blocks_of_64(rt: HostRuntime) -> Result<(), Fail> {
+    // Empty are sectors 64 to 127, R is 202.
+    let rows = [
+        (32, 32, [Local, Local, Local]),
+        (63, 2, [Redirected, FillFirst, Local]),
+        (127, 1, [Redirected, FillFirst, Local]),
+        (128, 74, [Local, Local, Local]),
+        (0, 202, [Redirected, FillFirst, Local]),
+        (201, 2, [Reserved, Reserved, Reserved]),
+        (0, 205, [Reserved, Reserved, Reserved]),
+    ];
+    let bitmap = middle_empty(rt.alloc())?;
+    let Some(area) = three_blocks(64, 192, 205) else {
+        panic!(rt; "no area")
+    };
+    assert_eq!(rt; first_other_class(&rows, &area, &bitmap), None);
     Ok(())
 }
 
@@ -187,54 +199,102 @@ fn commands_without_a_range(rt: HostRuntime) -> Result<(), Fail> {
     Ok(())
 }
 
+// First sector and end of a range; the count of its first piece, and the piece's block where that is empty.
+type PieceRow = (u64, u64, u32, Option<u32>);
+
+// The first of these rows that has no sector, or whose first piece is another, with what that piece is.
+fn first_other_piece(rows: &[PieceRow], area: &Area, bitmap: &Bitmap) -> Option<(PieceRow, Piece)>
+    requires suitable { IsSuitable area.now }
+    requires blocks { blocks_in bitmap.now ≡ blocks_of area.now }
+{
+    for (first, end, count, empty) in rows {
+        let piece = Piece {
+            first: *first,
+            count: *count,
+            empty: *empty,
+        };
+        if *first >= *end {
+            return Some(((*first, *end, *count, *empty), piece));
+        }
+        let found = first_piece(*first, *end, area, bitmap);
+        if found != piece {
+            return Some(((*first, *end, *count, *empty), found));
+        }
+    }
+    None
+}
+
 #[test]
-fn first_pieces(rt: HostRuntime) -> Result<(), Fail> {
-    // Sectors of block, image and disk, the range's first sector and its end; the piece's count and empty block.
-    let cases = [
-        (8, 24, 37, 0, 8, 8, None),
-        (8, 24, 37, 0, 24, 8, None),
-        (8, 24, 37, 3, 5, 2, None),
-        (8, 24, 37, 7, 9, 1, None),
-        (8, 24, 37, 8, 9, 1, Some(1)),
-        (8, 24, 37, 8, 16, 8, Some(1)),
-        (8, 24, 37, 9, 12, 3, Some(1)),
-        (8, 24, 37, 15, 17, 1, Some(1)),
-        (8, 24, 37, 16, 37, 8, None),
-        (8, 24, 37, 23, 30, 1, None),
-        (8, 24, 37, 24, 34, 8, None),
-        (8, 24, 37, 34, 37, 3, None),
-        (16, 48, 61, 15, 40, 1, None),
-        (16, 48, 61, 16, 40, 16, Some(1)),
-        (16, 48, 61, 20, 24, 4, Some(1)),
-        (16, 48, 61, 50, 58, 8, None),
-        (32, 96, 109, 30, 90, 2, None),
-        (32, 96, 109, 40, 90, 24, Some(1)),
-        (32, 96, 109, 63, 90, 1, Some(1)),
-        (32, 96, 109, 64, 90, 26, None),
-        (64, 192, 205, 0, 192, 64, None),
-        (64, 192, 205, 64, 192, 64, Some(1)),
-        (64, 192, 205, 127, 128, 1, Some(1)),
-        (64, 192, 205, 128, 202, 64, None),
-        // No drive has these sectors.
-        (64, 192, 205, u64::MAX - 1, u64::MAX, 1, None),
+fn first_pieces_in_blocks_of_8(rt: HostRuntime) -> Result<(), Fail> {
+    let rows = [
+        (0, 8, 8, None),
+        (0, 24, 8, None),
+        (3, 5, 2, None),
+        (7, 9, 1, None),
+        (8, 9, 1, Some(1)),
+        (8, 16, 8, Some(1)),
+        (9, 12, 3, Some(1)),
+        (15, 17, 1, Some(1)),
+        (16, 37, 8, None),
+        (23, 30, 1, None),
+        (24, 34, 8, None),
+        (34, 37, 3, None),
     ];
     let bitmap = middle_empty(rt.alloc())?;
-    for (block, image, disk, first, end, count, empty) in cases {
-        let Some(area) = three_blocks(block, image, disk) else {
-            panic!(rt; "{block}")
-        };
-        assert!(rt; first < end, "{first} {end}");
-        let piece = Piece {
-            first,
-            count,
-            empty,
-        };
-        assert_eq!(rt;
-            first_piece(first, end, &area, &bitmap),
-            piece,
-            "{block} {first} {end}"
-        );
-    }
+    let Some(area) = three_blocks(8, 24, 37) else {
+        panic!(rt; "no area")
+    };
+    assert_eq!(rt; first_other_piece(&rows, &area, &bitmap), None);
+    Ok(())
+}
+
+#[test]
+fn first_pieces_in_blocks_of_16(rt: HostRuntime) -> Result<(), Fail> {
+    let rows = [
+        (15, 40, 1, None),
+        (16, 40, 16, Some(1)),
+        (20, 24, 4, Some(1)),
+        (50, 58, 8, None),
+    ];
+    let bitmap = middle_empty(rt.alloc())?;
+    let Some(area) = three_blocks(16, 48, 61) else {
+        panic!(rt; "no area")
+    };
+    assert_eq!(rt; first_other_piece(&rows, &area, &bitmap), None);
+    Ok(())
+}
+
+#[test]
+fn first_pieces_in_blocks_of_32(rt: HostRuntime) -> Result<(), Fail> {
+    let rows = [
+        (30, 90, 2, None),
+        (40, 90, 24, Some(1)),
+        (63, 90, 1, Some(1)),
+        (64, 90, 26, None),
+    ];
+    let bitmap = middle_empty(rt.alloc())?;
+    let Some(area) = three_blocks(32, 96, 109) else {
+        panic!(rt; "no area")
+    };
+    assert_eq!(rt; first_other_piece(&rows, &area, &bitmap), None);
+    Ok(())
+}
+
+#[test]
+fn first_pieces_in_blocks_of_64(rt: HostRuntime) -> Result<(), Fail> {
+    let rows = [
+        (0, 192, 64, None),
+        (64, 192, 64, Some(1)),
+        (127, 128, 1, Some(1)),
+        (128, 202, 64, None),
+        // No drive has these sectors.
+        (u64::MAX - 1, u64::MAX, 1, None),
+    ];
+    let bitmap = middle_empty(rt.alloc())?;
+    let Some(area) = three_blocks(64, 192, 205) else {
+        panic!(rt; "no area")
+    };
+    assert_eq!(rt; first_other_piece(&rows, &area, &bitmap), None);
     Ok(())
 }
 
