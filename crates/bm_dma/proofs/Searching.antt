@@ -72,16 +72,17 @@ bad_one skipped found few =
     let all : found ++ take (512 - length found) (drop skipped []) ≡ found = ap (λ xs. found ++ xs) nothing ∙ append-nil found in
     rw all (rw (ne_eqb (length found) 512 (λ e. omega arith)) refl)
 
-tests : (full at_end : Bool) (found : List ℕ) → (if full then result (All (true && at_end)) found else result Ended found) ≡ result (found_as full (true && at_end) true) found
-tests true at_end found = refl
-tests false at_end found = refl
+-- what is found at the mark of the end
+last_found : (full at_end : Bool) (found : List ℕ) → (if full then result (All (true && at_end)) found else result Ended found) ≡ result (found_as full (true && at_end) true) found
+last_found true at_end found = refl
+last_found false at_end found = refl
 
 -- the table's last descriptor
 last_one : (d : Descriptor) (skipped : ℕ) (found : List ℕ) (rest : Result) → d.is_last ≡ true
     → good_one d (skipped + (512 - length found)) (with_piece d skipped found) rest ≡ expected skipped found (places_of d ++ []) true
 last_one d skipped found rest last =
     rw (append-nil (places_of d), last, length-range_with_len d.base d.count)
-    (tests (length (with_piece d skipped found) == 512) (d.count == skipped + (512 - length found)) (with_piece d skipped found))
+    (last_found (length (with_piece d skipped found) == 512) (d.count == skipped + (512 - length found)) (with_piece d skipped found))
 
 -- the places of a sector, of a descriptor and of what stands behind it
 both : (d : Descriptor) (skipped m : ℕ) (found rest : List ℕ) → m ≡ (512 - length found) - (d.count - skipped)
@@ -96,9 +97,10 @@ both d skipped m found rest e =
 pub length_both : (d : Descriptor) (rest : List ℕ) → length (places_of d ++ rest) ≡ d.count + length rest
 length_both d rest = omega (arith, length-append (places_of d) rest, length-range_with_len d.base d.count)
 
-never : (ended : Bool) (a b : ℕ) → (ended ≡ true → a ≡ b → ⊥) → false ≡ (ended && (a == b))
-never false a b apart = refl
-never true a b apart = sym (ne_eqb a b (apart refl))
+-- a sector that ends elsewhere is not the table's last
+not_at_end : (ended : Bool) (a b : ℕ) → (ended ≡ true → a ≡ b → ⊥) → false ≡ (ended && (a == b))
+not_at_end false a b apart = refl
+not_at_end true a b apart = sym (ne_eqb a b (apart refl))
 
 -- a sector that a descriptor completes, which is not the table's last
 completed : (d : Descriptor) (skipped : ℕ) (found : List ℕ) (run : Run) (rest : Result) → d.is_last ≡ false → HasPlace run → length found < 512
@@ -108,7 +110,7 @@ completed d skipped found run rest last has few full =
     let whole = both d skipped 0 found run.places (omega (arith, length_piece d skipped found)) in
     let same : found ++ take (512 - length found) (drop skipped (places_of d ++ run.places)) ≡ with_piece d skipped found = whole ∙ append-nil (with_piece d skipped found) in
     let apart : false ≡ (run.ended && (length (places_of d ++ run.places) == skipped + (512 - length found))) =
-    never run.ended (length (places_of d ++ run.places)) (skipped + (512 - length found))
+    not_at_end run.ended (length (places_of d ++ run.places)) (skipped + (512 - length found))
     (λ ends e. let some = has ends in omega (arith, length_piece d skipped found, length_both d run.places)) in
     rw (same, eq-eqb (length (with_piece d skipped found)) 512 full, last) (ap (λ end. result (All end) (with_piece d skipped found)) apart)
 

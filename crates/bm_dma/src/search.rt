@@ -6,6 +6,7 @@ ghost use Rattle.bm_dma.specs.Descriptor.{with_piece};
 ghost use Rattle.bm_dma.specs.Run.{run_of, sector_places, found_in};
 
 use crate::descriptor::{DESCRIPTOR_BYTES, Descriptor};
+use crate::memory::MOST_BYTES;
 use arrayvec::ArrayVec;
 
 /// The addresses of the 512 bytes of one sector, in order, as far as they were found.
@@ -25,7 +26,7 @@ pub(crate) enum Found {
 // Finds the places of the sector behind `moved` others, and puts them into `places`. It looks at each descriptor from
 // the table's top to the last one that the sector needs, and at no other.
 pub(crate) fn find_places(memory: &[u8], pointer: u32, moved: u32, places: &mut Places) -> Found
-    requires few { length memory.now ≤ 16777216 }
+    requires few { length memory.now ≤ MOST_BYTES }
     requires empty { places.old.items ≡ [] }
     ensures places { places.new.items ≡ sector_places moved (run_of pointer memory.now) }
     ensures found { result ≡ found_in moved (run_of pointer memory.now) }
@@ -54,7 +55,7 @@ pub(crate) fn find_places(memory: &[u8], pointer: u32, moved: u32, places: &mut 
 
 // Adds the places of a descriptor behind its first `start`, up to the one behind its first `end`.
 fn add_piece(descriptor: &Descriptor, start: usize, end: usize, places: &mut Places)
-    requires within { descriptor.now.base + descriptor.now.count ≤ 16777216 }
+    requires within { descriptor.now.base + descriptor.now.count ≤ MOST_BYTES }
     requires few { length places.old.items ≤ 512 }
     requires room { end ≡ start + (512 - length places.old.items) }
     ensures piece { places.new.items ≡ with_piece descriptor.now start places.old.items }

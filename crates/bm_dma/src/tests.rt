@@ -1,4 +1,5 @@
-//! Sectors moved by hand-made tables. The places and what follows are worked out by hand from the rules of docs/drive.md.
+//! Sectors moved by hand-made tables. The places and what follows are worked out by hand from the rules of
+//! docs/drive.md.
 
 use crate::{GuestMemory, Moved, NoMemory, move_in, move_out};
 use ata_taskfile::Bus;
@@ -27,18 +28,13 @@ fn ended(error: bool) -> Bus {
     bus
 }
 
-// The answer of a move out, and the bus master after it.
-fn moved_out(old: Bus, memory: &GuestMemory) -> (Moved, Bus) {
-    let mut bus = old;
-    let moved = move_out(&mut bus, memory, &mut [0; 512]);
-    (moved, bus)
-}
-
-// The same of a move in.
-fn moved_in(old: Bus, memory: &mut GuestMemory) -> (Moved, Bus) {
-    let mut bus = old;
-    let moved = move_in(&mut bus, memory, &[9; 512]);
-    (moved, bus)
+// The answer of a move out and the bus master after it, and the same of a move in, each from this bus master on.
+fn moved_both_ways(old: Bus, memory: &mut GuestMemory) -> [(Moved, Bus); 2] {
+    let mut after_out = old;
+    let out = move_out(&mut after_out, memory, &mut [0; 512]);
+    let mut after_in = old;
+    let moved_in = move_in(&mut after_in, memory, &[9; 512]);
+    [(out, after_out), (moved_in, after_in)]
 }
 
 // Writes bytes from an address on.
@@ -103,9 +99,8 @@ fn tables_to_their_end(rt: HostRuntime) -> Result<(), Fail> {
     ];
     for (name, table, before, answer, after) in cases {
         let mut memory = two_pages(rt.alloc(), table)?;
-        let old = walking(TABLE, before);
-        assert_eq!(rt; moved_out(old, &memory), (answer, after), "{name}, out");
-        assert_eq!(rt; moved_in(old, &mut memory), (answer, after), "{name}, in");
+        let both = moved_both_ways(walking(TABLE, before), &mut memory);
+        assert_eq!(rt; both, [(answer, after); 2], "{name}");
     }
     Ok(())
 }
@@ -134,9 +129,8 @@ fn tables_to_a_bad_descriptor(rt: HostRuntime) -> Result<(), Fail> {
     ];
     for (name, table, before, answer, after) in cases {
         let mut memory = two_pages(rt.alloc(), table)?;
-        let old = walking(TABLE, before);
-        assert_eq!(rt; moved_out(old, &memory), (answer, after), "{name}, out");
-        assert_eq!(rt; moved_in(old, &mut memory), (answer, after), "{name}, in");
+        let both = moved_both_ways(walking(TABLE, before), &mut memory);
+        assert_eq!(rt; both, [(answer, after); 2], "{name}");
     }
     Ok(())
 }
