@@ -1,63 +1,7 @@
-//! Stores in memory, reached through the trait alone, and one whose calls fail by their number.
+//! Stores in memory, reached through the trait alone.
 
-use crate::{MemoryStore, Store, StoreFault};
+use crate::{FailingStore, MemoryStore, Store, StoreFault};
 use std::test::Fail;
-
-// A store in memory that counts its calls from 0, and fails the one whose number is planned.
-#[derive(Drop)]
-struct NumberedStore {
-    inner: MemoryStore,
-    calls: u32,
-    failing: u32,
-    faults: u64,
-}
-
-impl NumberedStore {
-    ghost use Rattle.std.specs.Prelude.{◌≡◌};
-    ghost use Rattle.drive_store.specs.Store.{Counted};
-
-    fn count_call(&mut self) -> Result<(), StoreFault>
-        ensures cause { Counted self.old.faults self.new.faults result }
-        ensures unmoved { self.new.inner ≡ self.old.inner }
-    {
-        let call = self.calls;
-        self.calls = call.saturating_add(1);
-        if call == self.failing {
-            self.faults = self.faults.saturating_add(1);
-            return Err(StoreFault);
-        }
-        Ok(())
-    }
-}
-
-impl Store for NumberedStore {
-    ghost use Rattle.std.specs.Prelude.{refl};
-    ghost use Rattle.drive_store.specs.MemoryStore.{sectors_of};
-
-    ghost Rest = { Unit {0} };
-
-    ghost sectors = { λ s. sectors_of s.inner };
-
-    ghost faults = { λ s. s.faults };
-
-    ghost rest = { λ _. tt };
-
-    ghost whole = { λ s. record { number = refl; sizes = s.inner.sizes } };
-
-    fn sectors(&self) -> u64 {
-        self.inner.sectors()
-    }
-
-    fn get(&mut self, sector: u64, into: &mut [u8; 512]) -> Result<(), StoreFault> {
-        self.count_call()?;
-        self.inner.get(sector, into)
-    }
-
-    fn set(&mut self, sector: u64, from: &[u8; 512]) -> Result<(), StoreFault> {
-        self.count_call()?;
-        self.inner.set(sector, from)
-    }
-}
 
 // The bytes of a sector; None where there is no such sector.
 fn sector<S: Store>(store: &mut S, sector: u64) -> Option<Result<[u8; 512], StoreFault>> {
@@ -112,13 +56,7 @@ fn a_call_fails_by_its_number(rt: HostRuntime) -> Result<(), Fail> {
         (4, [good, good], [ones, ones], 0),
     ];
     for (failing, sets, gets, faults) in cases {
-        let inner = MemoryStore::new(rt.alloc(), 2)?;
-        let mut store = NumberedStore {
-            inner,
-            calls: 0,
-            failing,
-            faults: 0,
-        };
+        let mut store = FailingStore::new(MemoryStore::new(rt.alloc(), 2)?, failing);
         assert_eq!(rt;
             [fill(&mut store, 0, 1), fill(&mut store, 1, 1)],
             sets,
@@ -129,7 +67,7 @@ fn a_call_fails_by_its_number(rt: HostRuntime) -> Result<(), Fail> {
             gets,
             "call {failing}"
         );
-        assert_eq!(rt; store.faults, faults, "call {failing}");
+        assert_eq!(rt; store.faults(), faults, "call {failing}");
     }
     Ok(())
 }
