@@ -23,7 +23,7 @@ use Rattle.ata_taskfile.proofs.Ends.{is_due, reset_ended_lawful, refused_lawful}
 use Rattle.plain_drive.specs.Plain.{Plain, with_registers, with_block, sector_value, words_of}
 use Rattle.plain_drive.specs.Laws.{HasWholeSectors}
 use Rattle.plain_drive.specs.Step.{words_due, offered, ended, next_wanted, first_wanted, walked, sector_given, transferred, proceeded, stepped, failed_step, failure_shown, failure_bit, step_made}
-use Rattle.plain_drive.proofs.Outcomes.{identity-length}
+use Rattle.plain_drive.proofs.Words.{identity-length}
 use Rattle.plain_drive.proofs.Ends.{ended_lawful, transferred_lawful, walked_lawful, offered_lawful, wanted_lawful, first_wanted_lawful, given_up_lawful}
 
 -- other registers, which are lawful

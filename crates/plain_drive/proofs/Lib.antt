@@ -1,7 +1,8 @@
+pub mod Cells
 mod Outcomes
 mod Words
-pub mod Steps
 pub mod Sectors
+pub mod Steps
 pub mod Ends
 pub mod KeepsLawful
 pub mod CellEnds

@@ -30,14 +30,10 @@ use Rattle.plain_drive.specs.Step.{words_due, offered, loaded, ended, first_want
 abbrev pub celled : List Cell → Device → Device
 celled cells d = record d { cells = cells }
 
--- other cells in both parts of a choice
-chosen : (cells : List Cell) (b : Bool) (p q : Plain) → (if b then with_cells cells p else with_cells cells q) ≡ with_cells cells (if b then p else q)
-chosen cells true p q = refl
-chosen cells false p q = refl
-
-chosen_device : (cells : List Cell) (b : Bool) (d e : Device) → (if b then celled cells d else celled cells e) ≡ celled cells (if b then d else e)
-chosen_device cells true d e = refl
-chosen_device cells false d e = refl
+-- what is done in both parts of a choice may be done after it
+chosen : {A B : Type 0} (f : A → B) (b : Bool) (x y : A) → (if b then f x else f y) ≡ f (if b then x else y)
+chosen f true x y = refl
+chosen f false x y = refl
 
 -- a write of a register does the same
 wrote_shared : (cells : List Cell) (w : Wrote) (f : TaskFile) (d : Device) → after_wrote w f (celled cells d) ≡ celled cells (after_wrote w f d)
@@ -51,7 +47,7 @@ pub accessed_shared : (cells : List Cell) (a : Access) (d : Device) → accessed
 accessed_shared cells (access.Read8 r) d = refl
 accessed_shared cells (access.Write8 r v) d =
     ap (λ e. if is_of_bus r then celled cells (with_bus (bus_written r v d.bus) d) else e) (wrote_shared cells (wrote r v d.file) (after_write r v d.file) d)
-    ∙ chosen_device cells (is_of_bus r) (with_bus (bus_written r v d.bus) d) (after_wrote (wrote r v d.file) (after_write r v d.file) d)
+    ∙ chosen (celled cells) (is_of_bus r) (with_bus (bus_written r v d.bus) d) (after_wrote (wrote r v d.file) (after_write r v d.file) d)
 accessed_shared cells access.ReadWord d = refl
 accessed_shared cells (access.WriteWord w) d = refl
 accessed_shared cells access.ReadPointer d = refl
@@ -117,7 +113,7 @@ change_shared cells step.Bad p = refl
 
 -- the walk of a command ends the same
 without_walk_shared : (cells : List Cell) (form : Form) (p : Plain) → without_walk form (with_cells cells p) ≡ with_cells cells (without_walk form p)
-without_walk_shared cells form p = chosen cells (moves_by_bus form) (record p { device = with_bus (walk_ended p.device.bus) p.device }) p
+without_walk_shared cells form p = chosen (with_cells cells) (moves_by_bus form) (record p { device = with_bus (walk_ended p.device.bus) p.device }) p
 
 transferred_shared : (cells : List Cell) (order : Request) (p : Plain) → transferred order (with_cells cells p) ≡ with_cells cells (transferred order p)
 transferred_shared cells order p = ap ended (without_walk_shared cells order.form p)
@@ -129,8 +125,8 @@ given_up_shared cells order done p =
 received_shared : (cells : List Cell) (order : Request) (done : ℕ) (p : Plain) → received order done (with_cells cells p) ≡ with_cells cells (received order done p)
 received_shared cells order done p =
     ap (λ q. if done == 0 then with_cells cells (first_wanted order p) else q)
-    (chosen cells (nat_lt done order.count) (offered order done [] p) (ended p))
-    ∙ chosen cells (done == 0) (first_wanted order p) (next_wanted order done p)
+    (chosen (with_cells cells) (nat_lt done order.count) (offered order done [] p) (ended p))
+    ∙ chosen (with_cells cells) (done == 0) (first_wanted order p) (next_wanted order done p)
 
 failed_shared : (cells : List Cell) (phase : Phase) (p : Plain) → failed_step phase (with_cells cells p) ≡ with_cells cells (failed_step phase p)
 failed_shared cells Reset p = refl
@@ -178,7 +174,7 @@ module _ (cells : List Cell) (p : Plain) (same : (s : ℕ) → current (slice_in
   proceeded_shared NoMove order done = refl
 
   stepped_shared : (phase : Phase) → stepped phase (with_cells cells p) ≡ with_cells cells (stepped phase p)
-  stepped_shared Reset = chosen cells (holds_reset p.device.file) p (with_registers (reset_ended p.device.file) p)
+  stepped_shared Reset = chosen (with_cells cells) (holds_reset p.device.file) p (with_registers (reset_ended p.device.file) p)
   stepped_shared Idle = refl
   stepped_shared (Ready taken done left) = refl
   stepped_shared (Busy (Bad reason) done) = refl

@@ -1,5 +1,5 @@
--- The words read from Data, and written to it.
-use Rattle.std.proofs.Common.{◌≡◌, ℕ, ◌+◌, ◌-◌, ◌≤◌, ◌<◌, List, [], ◌∷◌, ◌++◌, append_assoc, length, zero, suc, true, drop, get_or, sym, ap, ◌∙◌, arith}
+-- The words of a block: those read from Data and written to it, and those of IDENTIFY DEVICE.
+use Rattle.std.proofs.Common.{◌≡◌, ℕ, ◌+◌, ◌-◌, ◌≤◌, ◌<◌, List, [], ◌∷◌, ◌++◌, append_assoc, length, zero, suc, true, drop, get_or, refl, sym, ap, ◌∙◌, arith, length-append}
 use Rattle.std.proofs.Math.ListN.{drop_of_length-le}
 use Rattle.std.proofs.Math.Seq.{drop-cons}
 use Rattle.ata_taskfile.specs.declared.Request.{Request}
@@ -9,6 +9,7 @@ use Rattle.ata_taskfile.specs.declared.Phase.TheVariants.{Busy, Ready}
 use Rattle.ata_taskfile.specs.Data.{word_in, phase_after_read, gives_words, takes_words, phase_after_write, block_after_write}
 use Rattle.ata_taskfile.specs.Device.{Device, after_read_word, after_write_word}
 use Rattle.plain_drive.specs.Words.{words_read, after_written}
+use Rattle.plain_drive.specs.Identify.{identity_front, identity_word}
 use Rattle.plain_drive.specs.Laws.{IsWritten}
 
 -- the word that is due
@@ -77,3 +78,11 @@ written_words (v ∷ words) w d order done e takes =
     let here = word_taken-block d.file.phase order done (suc (suc (length words))) w d.block e takes in
     let rest = written_words words v (after_write_word w d) order done less takes in
     record { block = rest.block ∙ ap (λ b. b ++ v ∷ words) here ∙ append_assoc d.block (w ∷ []) (v ∷ words); phase = rest.phase }
+
+-- so many words of IDENTIFY DEVICE
+pub identity-length : (n sectors : ℕ) → length (identity_front n sectors) ≡ n
+unfolding identity_front
+identity-length zero sectors = refl
+identity-length (suc n) sectors =
+    let front = identity-length n sectors in
+    let all = length-append (identity_front n sectors) (identity_word n sectors ∷ []) in omega arith

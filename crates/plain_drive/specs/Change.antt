@@ -23,7 +23,8 @@ pub data Change : Type 0 where
   writes : ℕ → List ℕ → Change
   flushes : Change
 
--- the cells after it: a written value is its sector's newest, and a flush makes each current value durable (ATA/ATAPI-6, FLUSH CACHE; own: the disk model)
+-- the cells after it: a written value is its sector's newest, and a flush makes each current value
+-- durable (ATA/ATAPI-6, FLUSH CACHE; own: the disk model)
 abbrev pub cells_after : Change → List Cell → List Cell
 cells_after leaves cells = cells
 cells_after (writes s value) cells = appended s value cells
@@ -45,18 +46,22 @@ change_moved (Short n) s value = leaves
 change_moved Outside s value = leaves
 change_moved Waiting s value = leaves
 
--- of the next sector of a write by the bus master: its bytes are those at the places that the table names (Bus Master IDE 1.0, descriptor table)
+-- of the next sector of a write by the bus master: its bytes are those at the places that the table
+-- names (Bus Master IDE 1.0, descriptor table)
 abbrev pub change_walked : Request → ℕ → Plain → Change
 change_walked order done p =
     change_moved (outcome p.device.bus p.memory) (order.first + done)
     (sector_after (outcome p.device.bus p.memory) (places_next p.device.bus p.memory) p.memory [])
 
--- of a good step of an order, one line for each way in which its data moves: a block that came is written to its sector (ATA/ATAPI-6, PIO data-out)
+-- of a good step of an order, one equation for each way in which its data moves: a block that came
+-- is written to its sector (ATA/ATAPI-6, PIO data-out)
 abbrev pub change_proceeded : Form → Request → ℕ → Plain → Change
 change_proceeded PioIn order done p = leaves
-change_proceeded PioOut order done p = if done == 0 then leaves else writes (order.first + (done - 1)) (bytes_of p.device.block)
+change_proceeded PioOut order done p =
+    if done == 0 then leaves else writes (order.first + (done - 1)) (bytes_of p.device.block)
 change_proceeded DmaIn order done p = leaves
-change_proceeded DmaOut order done p = if nat_lt done order.count then change_walked order done p else leaves
+change_proceeded DmaOut order done p =
+    if nat_lt done order.count then change_walked order done p else leaves
 change_proceeded NoMove order done p = change_without_data order.kind
 
 -- of a good step in a phase

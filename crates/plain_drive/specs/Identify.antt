@@ -13,7 +13,8 @@ firmware_revision = codes "1.0     "
 abbrev pub model_number : List ℕ
 model_number = codes "BMCAST DRIVE                            "
 
--- a word of a text: the first character of each pair is the high byte (ATA/ATAPI-6, IDENTIFY DEVICE)
+-- a word of a text: the first character of each pair is its high byte
+-- (ATA/ATAPI-6, IDENTIFY DEVICE)
 abbrev pub text_word : List ℕ → ℕ → ℕ
 text_word text i = slice_index text (2 * i + 1) + 256 * slice_index text (2 * i)
 

@@ -12,10 +12,15 @@ use Rattle.plain_drive.specs.Plain.{Plain, values}
 use Rattle.plain_drive.specs.Change.{Change, leaves, writes, flushes, change_made}
 use Rattle.plain_drive.specs.Step.{step_made}
 
--- what a drive keeps of its sectors: their durable values, and the written values that aren't durable yet (own: the disk model)
+-- what a drive keeps of its sectors: their durable values, and the written values that aren't
+-- durable yet (own: the disk model)
 pub record Kept : Type 0 where
   pub durable : List (List ℕ)
   pub cache : Cached
+
+-- so many entries may wait in the cache, and none does: these values are all durable
+abbrev pub fresh : ℕ → List (List ℕ) → Kept
+fresh room durable = record { durable = durable; cache = record { entries = []; room = room } }
 
 -- the entries of a sector and its durable value, as a cell
 abbrev pub cell_of : ℕ → List Entry → List ℕ → Cell
@@ -24,7 +29,8 @@ cell_of sector entries value = record { durable = value; written = values_of sec
 -- the cells of these durable values, the first of which is that of this sector
 abbrev pub cells_from : ℕ → List Entry → List (List ℕ) → List Cell
 cells_from sector entries [] = []
-cells_from sector entries (value ∷ durable) = cell_of sector entries value ∷ cells_from (suc sector) entries durable
+cells_from sector entries (value ∷ durable) =
+    cell_of sector entries value ∷ cells_from (suc sector) entries durable
 
 -- a cell for each sector: its durable value, and those of its entries, the newest first
 abbrev pub cells_of : Kept → List Cell
@@ -44,13 +50,21 @@ abbrev pub all_durable : List Entry → List (List ℕ) → List (List ℕ)
 all_durable [] durable = durable
 all_durable (entry ∷ entries) durable = all_durable entries (made_durable entry durable)
 
--- after a change: a written value is the newest entry, for which the oldest becomes durable where the cache is full; a flush makes all durable in order (own)
+-- after a change: a written value is the newest entry, for which the oldest becomes durable where
+-- the cache is full; a flush makes all durable in order (own)
 abbrev pub kept_after : Change → Kept → Kept
 kept_after leaves k = k
-kept_after (writes s value) k = record { durable = put_durable (put_out k.cache) k.durable; cache = written (entry_of s value) k.cache }
-kept_after flushes k = record { durable = all_durable k.cache.entries k.durable; cache = holding [] k.cache }
+kept_after (writes s value) k = record {
+  durable = put_durable (put_out k.cache) k.durable;
+  cache = written (entry_of s value) k.cache;
+}
+kept_after flushes k = record {
+  durable = all_durable k.cache.entries k.durable;
+  cache = holding [] k.cache;
+}
 
--- after entry n, the oldest being entry 0, was made durable: it and the older ones of its sector go (own)
+-- after entry n, the oldest being entry 0, was made durable: it and the older ones of its sector go
+-- (own)
 abbrev pub kept_destaged : ℕ → Kept → Kept
 kept_destaged n k = record {
   durable = put_durable (slice_get k.cache.entries n) k.durable;
@@ -73,7 +87,13 @@ pub record Physical : Type 0 where
 -- the drive as a plain one: a cell for each sector that it keeps
 abbrev pub seen : Physical → Plain
 seen p = record {
-  device = record { file = p.file; bus = p.bus; block = p.block; cells = cells_of p.kept; sectors = p.sectors };
+  device = record {
+    file = p.file;
+    bus = p.bus;
+    block = p.block;
+    cells = cells_of p.kept;
+    sectors = p.sectors;
+  };
   memory = p.memory;
 }
 
@@ -90,7 +110,8 @@ keeping k p = record {
 
 -- after an access, which reaches no sector
 abbrev pub physical_accessed : Access → Physical → Physical
-physical_accessed access p = keeping p.kept (record (seen p) { device = accessed access (seen p).device })
+physical_accessed access p =
+    keeping p.kept (record (seen p) { device = accessed access (seen p).device })
 
 -- after a step: the plain drive's, and the change that it makes to what is kept
 abbrev pub physical_step : Step → Physical → Physical
@@ -102,7 +123,8 @@ physical_destaged n p = record p { kept = kept_destaged n p.kept }
 
 -- a drive at power-on that keeps this, with such a memory
 abbrev pub physical_at_power_on : Kept → ℕ → List ℕ → Physical
-physical_at_power_on k sectors memory = keeping k (record { device = powered_on [] sectors; memory = memory })
+physical_at_power_on k sectors memory =
+    keeping k (record { device = powered_on [] sectors; memory = memory })
 
 -- after a power cut, with the memory that the guest then has
 abbrev pub physical_cut : List ℕ → Physical → Physical
@@ -119,7 +141,8 @@ AreEndsOf [] (whole ∷ wholes) = ⊥
 AreEndsOf (cell ∷ cells) [] = ⊥
 AreEndsOf (cell ∷ cells) (whole ∷ wholes) = IsEndOf cell whole × AreEndsOf cells wholes
 
--- a physical drive stands for a plain one: they are the same but for values that the physical one has let go, and no current one is among these
+-- a physical drive stands for a plain one: they are the same but for values that the physical one
+-- has let go, and no current one is among these
 pub record StandsFor (physical : Physical) (p : Plain) : Type 0 where
   pub file : physical.file ≡ p.device.file
   pub bus : physical.bus ≡ p.device.bus
@@ -127,7 +150,3 @@ pub record StandsFor (physical : Physical) (p : Plain) : Type 0 where
   pub sectors : physical.sectors ≡ p.device.sectors
   pub memory : physical.memory ≡ p.memory
   pub cells : AreEndsOf (cells_of physical.kept) p.device.cells
-
--- so many entries may wait in the cache, and none does: these values are all durable
-abbrev pub fresh : ℕ → List (List ℕ) → Kept
-fresh room durable = record { durable = durable; cache = record { entries = []; room = room } }

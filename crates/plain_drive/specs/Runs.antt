@@ -9,7 +9,8 @@ use Rattle.plain_drive.specs.Step.{step_made}
 use Rattle.plain_drive.specs.Cut.{IsOutcome, drive_at_power_on}
 use Rattle.plain_drive.specs.Physical.{Physical, StandsFor, seen, physical_accessed, physical_step, physical_destaged, physical_cut}
 
--- what happens to a drive: a guest's access, a step, entry n becoming durable, or a power cut, after which the guest has this memory
+-- what happens to a drive: a guest's access, a step, entry n becoming durable, or a power cut,
+-- after which the guest has this memory
 pub data Happening : Type 0 where
   access : Access → Happening
   step : Step → Happening
@@ -38,15 +39,19 @@ physical_ran (last ∷ earlier) p = physical_after last (physical_ran earlier p)
 -- its answers to all of these, the last one first
 abbrev pub all_answers : List Happening → Physical → List (List Answer)
 all_answers [] p = []
-all_answers (last ∷ earlier) p = physical_answers last (physical_ran earlier p) ∷ all_answers earlier p
+all_answers (last ∷ earlier) p =
+    physical_answers last (physical_ran earlier p) ∷ all_answers earlier p
 
--- one happening leads a plain drive from old to new, with these answers: a destage doesn't reach it, and after a cut it begins with a cut outcome
+-- one happening leads a plain drive from old to new, with these answers: a destage doesn't reach
+-- it, and after a cut it begins with a cut outcome
 abbrev pub PlainHappens : Happening → Plain → List Answer → Plain → Type 0
-PlainHappens (access a) old answers new = (answers ≡ answer_to a old.device ∷ []) × (new ≡ record old { device = accessed a old.device })
+PlainHappens (access a) old answers new =
+    (answers ≡ answer_to a old.device ∷ []) × (new ≡ record old { device = accessed a old.device })
 PlainHappens (step s) old answers new = (answers ≡ []) × (new ≡ step_made s old)
 PlainHappens (destage n) old answers new = (answers ≡ []) × (new ≡ old)
 PlainHappens (cut memory) old answers new =
-    (answers ≡ []) × ((outcome : List (List ℕ)) × IsOutcome old.device.cells outcome × (new ≡ drive_at_power_on outcome old.device.sectors memory))
+    (answers ≡ []) × ((outcome : List (List ℕ)) × IsOutcome old.device.cells outcome
+    × (new ≡ drive_at_power_on outcome old.device.sectors memory))
 
 -- all of these, the last one first, lead a plain drive from start to now, with these answers
 abbrev pub IsPlainRun : Plain → List Happening → List (List Answer) → Plain → Type 0
@@ -56,7 +61,8 @@ IsPlainRun start (last ∷ earlier) [] now = ⊥
 IsPlainRun start (last ∷ earlier) (answers ∷ rest) now =
     (before : Plain) × IsPlainRun start earlier rest before × PlainHappens last before answers now
 
--- a plain run with the answers of a physical drive, which leads to a plain one for which that stands then
+-- a plain run with the answers of a physical drive, which leads to a plain one for which that
+-- stands then
 pub record HasPlainRun (happenings : List Happening) (physical : Physical) (start : Plain) : Type 0 where
   pub now : Plain
   pub run : IsPlainRun start happenings (all_answers happenings physical) now

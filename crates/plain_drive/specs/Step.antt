@@ -32,9 +32,11 @@ ended p = with_registers (announced Idle p.device.file) p
 
 -- a block waits in Data, or is wanted there, and an interrupt pends
 abbrev pub offered : Request → ℕ → List ℕ → Plain → Plain
-offered order done block p = with_registers (announced (Ready (Good order) done 256) p.device.file) (with_block block p)
+offered order done block p =
+    with_registers (announced (Ready (Good order) done 256) p.device.file) (with_block block p)
 
--- the words that a command gives: IDENTIFY DEVICE its own, any other those of the sector that is due (ATA/ATAPI-6, PIO data-in)
+-- the words that a command gives: IDENTIFY DEVICE its own, any other those of the sector that is
+-- due (ATA/ATAPI-6, PIO data-in)
 abbrev pub words_due : Kind → ℕ → Device → List ℕ
 words_due kind.Identify s d = identity d.sectors
 words_due kind.Read s d = words_of (sector_value s d)
@@ -49,19 +51,25 @@ loaded order done p = offered order done (words_due order.kind (order.first + do
 
 -- the first block of a write is wanted in Data, without an interrupt (ATA/ATAPI-6, PIO data-out)
 abbrev pub first_wanted : Request → Plain → Plain
-first_wanted order p = with_registers (record p.device.file { phase = Ready (Good order) 0 256 }) (with_block [] p)
+first_wanted order p =
+    with_registers (record p.device.file { phase = Ready (Good order) 0 256 }) (with_block [] p)
 
--- after a block was written: the next one is wanted, or the command has ended, and an interrupt pends (ATA/ATAPI-6, PIO data-out)
+-- after a block was written: the next one is wanted, or the command has ended, and an interrupt
+-- pends (ATA/ATAPI-6, PIO data-out)
 abbrev pub next_wanted : Request → ℕ → Plain → Plain
 next_wanted order done p = if nat_lt done order.count then offered order done [] p else ended p
 
--- a command that takes words: its first block is wanted, or the block that came is written and the next one is (ATA/ATAPI-6, PIO data-out)
+-- a command that takes words: its first block is wanted, or the block that came is written and the
+-- next one is wanted (ATA/ATAPI-6, PIO data-out)
 abbrev pub received : Request → ℕ → Plain → Plain
 received order done p = if done == 0 then first_wanted order p else next_wanted order done p
 
 -- the drive without the walk of its command, where the bus master moves that; active stays (own)
 abbrev pub without_walk : Form → Plain → Plain
-without_walk form p = if moves_by_bus form then record p { device = with_bus (walk_ended p.device.bus) p.device } else p
+without_walk form p =
+    if moves_by_bus form
+    then record p { device = with_bus (walk_ended p.device.bus) p.device }
+    else p
 
 -- one sector further after a whole one has moved; else the position stays (own)
 abbrev pub position_after : Moved → ℕ → ℕ
@@ -70,16 +78,19 @@ position_after (Short n) done = done
 position_after Outside done = done
 position_after Waiting done = done
 
--- the bus master has tried the next sector of its walk, if one is running, and the command stands where that leaves it (Bus Master IDE 1.0, data transfer)
+-- the bus master has tried the next sector of its walk, if one is running, and the command stands
+-- where that leaves it (Bus Master IDE 1.0, data transfer)
 abbrev pub walked : Request → ℕ → Plain → Plain
 walked order done p = record p {
-  device = with_phase (Busy (Good order) (position_after (outcome p.device.bus p.memory) done)) (with_bus (bus_next p.device.bus p.memory) p.device);
+  device = with_phase (Busy (Good order) (position_after (outcome p.device.bus p.memory) done))
+      (with_bus (bus_next p.device.bus p.memory) p.device);
 }
 
 -- a sector of a read goes to memory, as far as the table names places for it
 abbrev pub sector_given : Request → ℕ → Plain → Plain
 sector_given order done p = record (walked order done p) {
-  memory = memory_after (outcome p.device.bus p.memory) (places_next p.device.bus p.memory) (sector_value (order.first + done) p.device) p.memory;
+  memory = memory_after (outcome p.device.bus p.memory) (places_next p.device.bus p.memory)
+      (sector_value (order.first + done) p.device) p.memory;
 }
 
 -- a command whose sectors have all moved ends well, with its walk (ATA/ATAPI-6, DMA)
@@ -90,19 +101,24 @@ transferred order p = ended (without_walk order.form p)
 abbrev pub proceeded : Form → Request → ℕ → Plain → Plain
 proceeded PioIn order done p = loaded order done p
 proceeded PioOut order done p = received order done p
-proceeded DmaIn order done p = if nat_lt done order.count then sector_given order done p else transferred order p
-proceeded DmaOut order done p = if nat_lt done order.count then walked order done p else transferred order p
+proceeded DmaIn order done p =
+    if nat_lt done order.count then sector_given order done p else transferred order p
+proceeded DmaOut order done p =
+    if nat_lt done order.count then walked order done p else transferred order p
 proceeded NoMove order done p = ended p
 
--- a good step in a phase, but for the sectors; Idle and Ready wait for the guest, and Reset while SRST is 1
+-- a good step in a phase, but for the sectors; Idle and Ready wait for the guest, and Reset while
+-- SRST is 1
 abbrev pub stepped : Phase → Plain → Plain
-stepped Reset p = if holds_reset p.device.file then p else with_registers (reset_ended p.device.file) p
+stepped Reset p =
+    if holds_reset p.device.file then p else with_registers (reset_ended p.device.file) p
 stepped Idle p = p
 stepped (Ready taken done left) p = p
 stepped (Busy (Bad reason) done) p = with_registers (refused reason p.device.file) p
 stepped (Busy (Good order) done) p = proceeded order.form order done p
 
--- the Error byte of an order that fails: a sector can't be had, or the command is given up (ATA/ATAPI-6, Error register; own: which for which)
+-- the Error byte of an order that fails: a sector can't be had, or the command is given up
+-- (ATA/ATAPI-6, Error register; own: which for which)
 abbrev pub failure_bit : Kind → ℕ
 failure_bit kind.Read = UNC
 failure_bit kind.Write = ABRT
@@ -115,21 +131,34 @@ failure_bit kind.Features = ABRT
 abbrev pub last_of : ℕ → ℕ → ℕ
 last_of first count = if count == 0 then first else first + count - 1
 
--- the sector at which an order fails: the one that is read, the one whose block came last, the one that is moved or the last, and without data the first (own)
+-- the sector at which a transfer by the bus master fails: the one that is moved, or the last one
+-- where all have moved (own)
+abbrev pub moving_sector : Request → ℕ → ℕ
+moving_sector order done =
+    if nat_lt done order.count then order.first + done else last_of order.first order.count
+
+-- the sector at which an order fails: the one that is read, the one whose block came last, the one
+-- that the bus master moves, and without data the first (own)
 abbrev pub failed_sector : Form → Request → ℕ → ℕ
 failed_sector PioIn order done = order.first + done
 failed_sector PioOut order done = last_of order.first done
-failed_sector DmaIn order done = if nat_lt done order.count then order.first + done else last_of order.first order.count
-failed_sector DmaOut order done = if nat_lt done order.count then order.first + done else last_of order.first order.count
+failed_sector DmaIn order done = moving_sector order done
+failed_sector DmaOut order done = moving_sector order done
 failed_sector NoMove order done = order.first
 
--- the registers with the sector at which an order fails; those of a command without a range stay (own)
+-- the registers with the sector at which an order fails; those of a command without a range stay
+-- (own)
 abbrev pub failure_shown : Request → ℕ → TaskFile → TaskFile
-failure_shown order done f = if has_range order.kind then addressed order.extended (failed_sector order.form order done) f else f
+failure_shown order done f =
+    if has_range order.kind
+    then addressed order.extended (failed_sector order.form order done) f
+    else f
 
 -- the failed end of an order: its Error, its sector, and its walk ends; no sector moves
 abbrev pub given_up : Request → ℕ → Plain → Plain
-given_up order done p = with_registers (ended_failed (failure_bit order.kind) (failure_shown order done p.device.file)) (without_walk order.form p)
+given_up order done p =
+    with_registers (ended_failed (failure_bit order.kind) (failure_shown order done p.device.file))
+    (without_walk order.form p)
 
 -- a bad step in a phase: it ends a command at which the drive is at work, and does nothing else
 abbrev pub failed_step : Phase → Plain → Plain
@@ -156,12 +185,17 @@ good_step p = step_made step.Good p
 abbrev pub bad_step : Plain → Plain
 bad_step p = step_made step.Bad p
 
+-- a good step of a transfer by the bus master has an effect: all sectors have moved, or a walk is
+-- running (own)
+abbrev pub transfers : Request → ℕ → Device → Bool
+transfers order done d = not (nat_lt done order.count) || is_walking d
+
 -- a good step of an order has an effect, but for one that waits for a walk
 abbrev pub proceeds : Form → Request → ℕ → Device → Bool
 proceeds PioIn order done d = true
 proceeds PioOut order done d = true
-proceeds DmaIn order done d = not (nat_lt done order.count) || is_walking d
-proceeds DmaOut order done d = not (nat_lt done order.count) || is_walking d
+proceeds DmaIn order done d = transfers order done d
+proceeds DmaOut order done d = transfers order done d
 proceeds NoMove order done d = true
 
 -- whether a step has an effect in a phase

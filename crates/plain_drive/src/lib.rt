@@ -26,18 +26,8 @@ ghost use Rattle.plain_drive.specs.Runs.{Happening, HasPlainRun};
 
 /// A store without writes has one cut outcome, itself.
 pub fn one_outcome_without_writes()
-    ensures { (values outcome : List (List ℕ)) → IsOutcome (stored values) outcome ↔ (outcome ≡ values) }
-{}
-
-/// The 256 words read from a loaded block are the block, in order.
-pub fn a_loaded_block_is_read()
-    ensures { (d : Device) → IsLoaded d → words_read 256 d ≡ d.block }
-{}
-
-/// The 256 words written to an empty block are the block, in order, and then the drive is at work on it.
-pub fn a_written_block_is_taken()
-    ensures { (d : Device) (words : List ℕ) → (wanted : IsAwaited d) → length words ≡ 256
-        → IsWritten (after_written words d) words wanted.order wanted.done }
+    ensures { (values outcome : List (List ℕ)) →
+        IsOutcome (stored values) outcome ↔ (outcome ≡ values) }
 {}
 
 /// A flush leaves one cut outcome, the current values.
@@ -58,6 +48,17 @@ pub fn a_written_value_is_current()
     ensures others { (s other : ℕ) (value : List ℕ) (cells : List Cell) → other ≢ s
         → slice_index_or (appended s value cells) other (settled [])
         ≡ slice_index_or cells other (settled []) }
+{}
+
+/// The 256 words read from a loaded block are the block, in order.
+pub fn a_loaded_block_is_read()
+    ensures { (d : Device) → IsLoaded d → words_read 256 d ≡ d.block }
+{}
+
+/// The 256 words written to an empty block are the block, in order, and then the drive is at work on it.
+pub fn a_written_block_is_taken()
+    ensures { (d : Device) (words : List ℕ) → (wanted : IsAwaited d) → length words ≡ 256
+        → IsWritten (after_written words d) words wanted.order wanted.done }
 {}
 
 /// IDENTIFY DEVICE gives a whole block.

@@ -1,4 +1,4 @@
-use Rattle.plain_drive.proofs.Outcomes.{identity-length}
+use Rattle.plain_drive.proofs.Words.{identity-length}
 use Rattle.plain_drive.proofs.identify_gives_a_block.Goals as goal
 
 pub returns : goal.returns
