@@ -44,7 +44,8 @@ device_of {S} {T} d = (seen (physical_of d [])).device
 
 -- this holds where the store tells its sectors before and after; it doesn't begin to tell them
 abbrev pub IfTold : {S : Type 0} {T : Ghosts S} → Drive S T → Drive S T → Type 0 → Type 0
-IfTold {S} {T} old new P = Becomes (λ _ _. P) (T.sectors old.sectors.store).told (T.sectors new.sectors.store).told
+IfTold {S} {T} old new P =
+    Becomes (λ _ _. P) (T.sectors old.sectors.store).told (T.sectors new.sectors.store).told
 
 -- the drive after work that changes what the guest sees in this way, and the sectors in that
 abbrev pub worked : Change → (Plain → Plain) → Physical → Physical

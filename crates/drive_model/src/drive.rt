@@ -70,7 +70,7 @@ impl<S: Store> Drive<S> {
 
     /// The registers.
     pub fn file(&self) -> &TaskFile
-        ensures { (memory : List ℕ) → result.now ≡ (physical_of self.now memory).file }
+        ensures { result.now ≡ (device_of self.now).file }
     {
         &self.file
     }

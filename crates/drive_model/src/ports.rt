@@ -97,10 +97,8 @@ impl<S: Store> Drive<S> {
             Wrote::Ignored => {}
             Wrote::Stored => self.put_file(file),
             Wrote::Command(byte) => {
-                file.phase = Phase::Busy(
-                    Taken::of(read_request(&file, byte, self.sectors.store.sectors())),
-                    0,
-                );
+                let order = read_request(&file, byte, self.sectors.store.sectors());
+                file.phase = Phase::Busy(Taken::of(order), 0);
                 self.put_file(file);
             }
             Wrote::ResetBegun => {

@@ -16,7 +16,7 @@ put_file-requires g c =
 pub put_file-requires-in-Command : goal.put_file-requires-in-Command
 put_file-requires-in-Command g c =
     let after = λ (f : TaskFile). IsLawfulState (in_hand c.in-Command.byte (g.S.Store.sectors c.args.self.now.sectors.store).count f) c.args.self.now.bus c.args.self.now.words (g.S.Store.sectors c.args.self.now.sectors.store).count in
-    rw (c.of.ensures, c.read_request.ensures, c.sectors.ensures)
+    rw (c.of.ensures, c.read_request-order.ensures, c.sectors.ensures)
     (subst after (sym c.write.ensures.after)
     (command_lawful c.args.reg c.args.v c.in-Command.byte c.args.self.now.file c.args.self.now.bus c.args.self.now.words (g.S.Store.sectors c.args.self.now.sectors.store).count (sym c.write.ensures.wrote ∙ c.in-Command.is) c.args.self.now.lawful))
 
