@@ -1,6 +1,7 @@
 -- What a store behind a write cache keeps.
-use Rattle.std.specs.Prelude.{ℕ, List, [], slice_index_or, Option, Some, None}
+use Rattle.std.specs.Prelude.{ℕ, ◌≡◌, List, [], slice_index_or, Option, Some, None, Result}
 use Rattle.ata_taskfile.specs.Device.{Device, powered_on}
+use Rattle.drive_store.specs.Store.{Becomes, Counted}
 use Rattle.drive_store.specs.declared.store.Store.{Ghosts}
 use Rattle.plain_drive.specs.Plain.{settled, current}
 use Rattle.plain_drive.specs.Physical.{Kept, cells_of, all_durable}
@@ -26,3 +27,16 @@ all_stored k = all_durable k.cache.entries k.durable
 -- a device with these sectors, whose registers don't matter
 abbrev pub device_over : {S : Type 0} {T : Ghosts S} → CachedStore S T → Device
 device_over {S} {T} c = powered_on (cells_of (kept_of c)) (T.sectors c.store).count
+
+-- calls to its store that ended so: a failure has its cause, and neither the rest of the store nor
+-- the number of sectors has changed
+pub record CallsStore {S : Type 0} {T : Ghosts S} {R E : Type 0}
+    (old new : CachedStore S T) (result : Result R E) : Type 0 where
+  pub cause : Counted (T.faults old.store) (T.faults new.store) result
+  pub rest : T.rest new.store ≡ T.rest old.store
+  pub count : (T.sectors new.store).count ≡ (T.sectors old.store).count
+
+-- this holds where its store tells its sectors before and after; it doesn't begin to tell them
+abbrev pub IfStoreTold : {S : Type 0} {T : Ghosts S} → CachedStore S T → CachedStore S T → Type 0 → Type 0
+IfStoreTold {S} {T} old new P =
+    Becomes (λ _ _. P) (T.sectors old.store).told (T.sectors new.store).told

@@ -1,14 +1,13 @@
 -- What a drive means.
 use Rattle.std.specs.Prelude.{ℕ, List, []}
 use Rattle.ata_taskfile.specs.Device.{Device}
-use Rattle.drive_store.specs.Store.{Becomes}
 use Rattle.drive_store.specs.declared.store.Store.{Ghosts}
 use Rattle.write_cache.specs.Cache.{Cached}
 use Rattle.plain_drive.specs.Plain.{Plain}
 use Rattle.plain_drive.specs.Change.{Change}
 use Rattle.plain_drive.specs.Physical.{Physical, seen, keeping, kept_after}
 use Rattle.drive_model.specs.Block.{block_of}
-use Rattle.drive_model.specs.CachedStore.{kept_of}
+use Rattle.drive_model.specs.CachedStore.{IfStoreTold, kept_of}
 use Rattle.drive_model.specs.declared.drive.Drive.{Drive}
 
 -- the store of a drive
@@ -44,8 +43,7 @@ device_of {S} {T} d = (seen (physical_of d [])).device
 
 -- this holds where the store tells its sectors before and after; it doesn't begin to tell them
 abbrev pub IfTold : {S : Type 0} {T : Ghosts S} → Drive S T → Drive S T → Type 0 → Type 0
-IfTold {S} {T} old new P =
-    Becomes (λ _ _. P) (T.sectors old.sectors.store).told (T.sectors new.sectors.store).told
+IfTold {S} {T} old new P = IfStoreTold old.sectors new.sectors P
 
 -- the drive after work that changes what the guest sees in this way, and the sectors in that
 abbrev pub worked : Change → (Plain → Plain) → Physical → Physical

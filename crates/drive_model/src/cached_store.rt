@@ -46,17 +46,15 @@ impl<S: Store + Drop> CachedStore<S> {
 impl<S: Store> CachedStore<S> {
     ghost use Rattle.std.specs.Prelude.{◌≡◌, ◌<◌, drop, Ok, IfOk, OnOk, is_some, slice_get, true, ⊤};
     ghost use Rattle.ata_taskfile.specs.declared.Stepped.TheVariants.{Nothing};
-    ghost use Rattle.drive_store.specs.Store.{Becomes, Counted};
     ghost use Rattle.plain_drive.specs.Step.{stepped_if, words_due};
     ghost use Rattle.plain_drive.specs.Change.{change_moved, change_without_data, writes, flushes};
     ghost use Rattle.plain_drive.specs.Physical.{kept_after, kept_destaged};
-    ghost use Rattle.drive_model.specs.CachedStore.{all_stored, device_over, kept_of, value_kept};
+    ghost use Rattle.drive_model.specs.CachedStore.{CallsStore, IfStoreTold, all_stored, device_over, kept_of, value_kept};
 
     /// Fills `into` with the current value of a sector: its newest entry, else what the store has.
     pub(crate) fn get(&mut self, sector: u64, into: &mut [u8; 512]) -> Result<(), StoreFault>
         requires { sector < (S.sectors self.old.store).count }
-        ensures cause { Counted (S.faults self.old.store) (S.faults self.new.store) result }
-        ensures rest { S.rest self.new.store ≡ S.rest self.old.store }
+        ensures called { CallsStore self.old self.new result }
         ensures cache { self.new.cache ≡ self.old.cache }
         ensures unmoved { S.sectors self.new.store ≡ S.sectors self.old.store }
         ensures value { OnOk result (is_some (S.sectors self.old.store).told ≡ true →
@@ -72,12 +70,9 @@ impl<S: Store> CachedStore<S> {
     /// Writes these bytes to a sector. Where the cache is full its oldest entry becomes durable before.
     pub(crate) fn put(&mut self, sector: u64, bytes: &[u8; 512]) -> Result<(), StoreFault>
         requires { sector < (S.sectors self.old.store).count }
-        ensures cause { Counted (S.faults self.old.store) (S.faults self.new.store) result }
-        ensures rest { S.rest self.new.store ≡ S.rest self.old.store }
-        ensures count { (S.sectors self.new.store).count ≡ (S.sectors self.old.store).count }
-        ensures after { OnOk result (Becomes
-            (λ _ _. kept_of self.new ≡ kept_after (writes sector bytes.now) (kept_of self.old))
-            (S.sectors self.old.store).told (S.sectors self.new.store).told) }
+        ensures called { CallsStore self.old self.new result }
+        ensures after { OnOk result (IfStoreTold self.old self.new
+            (kept_of self.new ≡ kept_after (writes sector bytes.now) (kept_of self.old))) }
     {
         match self.cache.put(sector, bytes) {
             Some(oldest) => self.store.set(oldest.sector, &oldest.bytes),
@@ -87,12 +82,9 @@ impl<S: Store> CachedStore<S> {
 
     /// Makes every entry durable, in order of writing.
     pub(crate) fn flush(&mut self) -> Result<(), StoreFault>
-        ensures cause { Counted (S.faults self.old.store) (S.faults self.new.store) result }
-        ensures rest { S.rest self.new.store ≡ S.rest self.old.store }
-        ensures count { (S.sectors self.new.store).count ≡ (S.sectors self.old.store).count }
-        ensures after { OnOk result (Becomes
-            (λ _ _. kept_of self.new ≡ kept_after flushes (kept_of self.old))
-            (S.sectors self.old.store).told (S.sectors self.new.store).told) }
+        ensures called { CallsStore self.old self.new result }
+        ensures after { OnOk result (IfStoreTold self.old self.new
+            (kept_of self.new ≡ kept_after flushes (kept_of self.old))) }
     {
         while self.store_oldest()? {}
         Ok(())
@@ -100,12 +92,9 @@ impl<S: Store> CachedStore<S> {
 
     // Makes the oldest entry durable; false where there is none.
     fn store_oldest(&mut self) -> Result<bool, StoreFault>
-        ensures cause { Counted (S.faults self.old.store) (S.faults self.new.store) result }
-        ensures rest { S.rest self.new.store ≡ S.rest self.old.store }
-        ensures count { (S.sectors self.new.store).count ≡ (S.sectors self.old.store).count }
-        ensures after { OnOk result (Becomes
-            (λ _ _. all_stored (kept_of self.new) ≡ all_stored (kept_of self.old))
-            (S.sectors self.old.store).told (S.sectors self.new.store).told) }
+        ensures called { CallsStore self.old self.new result }
+        ensures after { OnOk result (IfStoreTold self.old self.new
+            (all_stored (kept_of self.new) ≡ all_stored (kept_of self.old))) }
         ensures entries { OnOk result (self.new.cache.entries ≡ drop 1 self.old.cache.entries) }
         ensures answer { OnOk result (result ≡ Ok (is_some (slice_get self.old.cache.entries 0))) }
     {
@@ -119,12 +108,9 @@ impl<S: Store> CachedStore<S> {
     /// Makes entry `k` durable, the oldest being entry 0, and lets go the older ones of its sector. `Nothing` comes
     /// exactly where there is no such entry.
     pub(crate) fn destage(&mut self, k: u32) -> Result<Stepped, StoreFault>
-        ensures cause { Counted (S.faults self.old.store) (S.faults self.new.store) result }
-        ensures rest { S.rest self.new.store ≡ S.rest self.old.store }
-        ensures count { (S.sectors self.new.store).count ≡ (S.sectors self.old.store).count }
-        ensures after { OnOk result (Becomes
-            (λ _ _. kept_of self.new ≡ kept_destaged k (kept_of self.old))
-            (S.sectors self.old.store).told (S.sectors self.new.store).told) }
+        ensures called { CallsStore self.old self.new result }
+        ensures after { OnOk result (IfStoreTold self.old self.new
+            (kept_of self.new ≡ kept_destaged k (kept_of self.old))) }
         ensures answer { OnOk result
             (result ≡ Ok (stepped_if (is_some (slice_get self.old.cache.entries k)))) }
         ensures cache { result ≡ Ok Nothing → self.new.cache ≡ self.old.cache }
@@ -145,13 +131,10 @@ impl<S: Store> CachedStore<S> {
         bytes: &[u8; 512],
     ) -> Result<(), StoreFault>
         requires { sector < (S.sectors self.old.store).count }
-        ensures cause { Counted (S.faults self.old.store) (S.faults self.new.store) result }
-        ensures rest { S.rest self.new.store ≡ S.rest self.old.store }
-        ensures count { (S.sectors self.new.store).count ≡ (S.sectors self.old.store).count }
-        ensures after { OnOk result (Becomes
-            (λ _ _. kept_of self.new
-            ≡ kept_after (change_moved moved sector bytes.now) (kept_of self.old))
-            (S.sectors self.old.store).told (S.sectors self.new.store).told) }
+        ensures called { CallsStore self.old self.new result }
+        ensures after { OnOk result (IfStoreTold self.old self.new
+            (kept_of self.new
+            ≡ kept_after (change_moved moved sector bytes.now) (kept_of self.old))) }
     {
         match moved {
             Moved::Whole => self.put(sector, bytes),
@@ -161,12 +144,9 @@ impl<S: Store> CachedStore<S> {
 
     /// Does to the sectors what a command without data does.
     pub(crate) fn settle(&mut self, kind: Kind) -> Result<(), StoreFault>
-        ensures cause { Counted (S.faults self.old.store) (S.faults self.new.store) result }
-        ensures rest { S.rest self.new.store ≡ S.rest self.old.store }
-        ensures count { (S.sectors self.new.store).count ≡ (S.sectors self.old.store).count }
-        ensures after { OnOk result (Becomes
-            (λ _ _. kept_of self.new ≡ kept_after (change_without_data kind) (kept_of self.old))
-            (S.sectors self.old.store).told (S.sectors self.new.store).told) }
+        ensures called { CallsStore self.old self.new result }
+        ensures after { OnOk result (IfStoreTold self.old self.new
+            (kept_of self.new ≡ kept_after (change_without_data kind) (kept_of self.old))) }
     {
         match kind {
             Kind::Flush => self.flush(),
@@ -177,8 +157,7 @@ impl<S: Store> CachedStore<S> {
     /// The words that a command gives at a sector.
     pub(crate) fn words_due(&mut self, kind: Kind, sector: u64) -> Result<[u16; 256], StoreFault>
         requires { sector < (S.sectors self.old.store).count }
-        ensures cause { Counted (S.faults self.old.store) (S.faults self.new.store) result }
-        ensures rest { S.rest self.new.store ≡ S.rest self.old.store }
+        ensures called { CallsStore self.old self.new result }
         ensures cache { self.new.cache ≡ self.old.cache }
         ensures unmoved { S.sectors self.new.store ≡ S.sectors self.old.store }
         ensures words { IfOk result (λ words. is_some (S.sectors self.old.store).told ≡ true →

@@ -11,6 +11,7 @@ ghost use Rattle.drive_store.specs.Store.{Counted};
 ghost use Rattle.plain_drive.specs.Change.{leaves, change_without_data, change_proceeded};
 ghost use Rattle.plain_drive.specs.Physical.{seen, physical_step};
 ghost use Rattle.plain_drive.specs.Step.{stepped, acts, acts_in, stepped_if, proceeded, proceeds, ended};
+ghost use Rattle.drive_model.specs.CachedStore.{CallsStore};
 ghost use Rattle.drive_model.specs.Drive.{IfTold, count_of, faults_of, physical_of, rest_of, worked};
 
 use crate::Drive;
@@ -47,9 +48,7 @@ impl<S: Store> Drive<S> {
     }
 
     fn good_step(&mut self, memory: &mut GuestMemory) -> Result<Stepped, StoreFault>
-        ensures cause { Counted (faults_of self.old) (faults_of self.new) result }
-        ensures rest { rest_of self.new ≡ rest_of self.old }
-        ensures count { count_of self.new ≡ count_of self.old }
+        ensures called { CallsStore self.old.sectors self.new.sectors result }
         ensures size { length memory.new ≡ length memory.old }
         ensures after { OnOk result (IfTold self.old self.new
             (physical_of self.new memory.new
@@ -125,9 +124,7 @@ impl<S: Store> Drive<S> {
         memory: &mut GuestMemory,
     ) -> Result<Stepped, StoreFault>
         requires { self.old.file.phase ≡ Phase.Busy (Taken.Good order) done }
-        ensures cause { Counted (faults_of self.old) (faults_of self.new) result }
-        ensures rest { rest_of self.new ≡ rest_of self.old }
-        ensures count { count_of self.new ≡ count_of self.old }
+        ensures called { CallsStore self.old.sectors self.new.sectors result }
         ensures size { length memory.new ≡ length memory.old }
         ensures after { let p = physical_of self.old memory.old in
             OnOk result (IfTold self.old self.new (physical_of self.new memory.new
@@ -151,9 +148,7 @@ impl<S: Store> Drive<S> {
     fn end_without_data(&mut self, order: Request, done: u32) -> Result<Stepped, StoreFault>
         requires phase { self.old.file.phase ≡ Phase.Busy (Taken.Good order) done }
         requires still { moves_by_bus order.form ≡ false }
-        ensures cause { Counted (faults_of self.old) (faults_of self.new) result }
-        ensures rest { rest_of self.new ≡ rest_of self.old }
-        ensures count { count_of self.new ≡ count_of self.old }
+        ensures called { CallsStore self.old.sectors self.new.sectors result }
         ensures after { OnOk result (IfTold self.old self.new ((memory : List ℕ) →
             physical_of self.new memory
             ≡ worked (change_without_data order.kind) ended (physical_of self.old memory))) }

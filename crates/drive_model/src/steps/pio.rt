@@ -4,12 +4,12 @@ ghost use Rattle.std.specs.Prelude.{◌≡◌, ◌≢◌, ◌+◌, ◌-◌, ◌�
 ghost use Rattle.ata_taskfile.specs.TaskFile.{announced};
 ghost use Rattle.ata_taskfile.specs.Data.{gives_words, takes_words};
 ghost use Rattle.ata_taskfile.specs.Lawful.{IsLawfulState};
-ghost use Rattle.drive_store.specs.Store.{Counted};
 ghost use Rattle.plain_drive.specs.Words.{bytes_of};
 ghost use Rattle.plain_drive.specs.Change.{leaves, writes, change_proceeded};
 ghost use Rattle.plain_drive.specs.Physical.{seen};
 ghost use Rattle.plain_drive.specs.Step.{offered, loaded, received, first_wanted, next_wanted};
-ghost use Rattle.drive_model.specs.Drive.{IfTold, count_of, faults_of, physical_of, rest_of, worked};
+ghost use Rattle.drive_model.specs.CachedStore.{CallsStore};
+ghost use Rattle.drive_model.specs.Drive.{IfTold, count_of, physical_of, worked};
 ghost use Rattle.drive_model.specs.Block.{block_of};
 
 use crate::Drive;
@@ -24,9 +24,7 @@ impl<S: Store> Drive<S> {
     pub(crate) fn give_block(&mut self, order: Request, done: u32) -> Result<Stepped, StoreFault>
         requires phase { self.old.file.phase ≡ Phase.Busy (Taken.Good order) done }
         requires gives { gives_words order.form ≡ true }
-        ensures cause { Counted (faults_of self.old) (faults_of self.new) result }
-        ensures rest { rest_of self.new ≡ rest_of self.old }
-        ensures count { count_of self.new ≡ count_of self.old }
+        ensures called { CallsStore self.old.sectors self.new.sectors result }
         ensures after { OnOk result (IfTold self.old self.new ((memory : List ℕ) →
             physical_of self.new memory
             ≡ worked leaves (loaded order done) (physical_of self.old memory))) }
@@ -44,9 +42,7 @@ impl<S: Store> Drive<S> {
     pub(crate) fn receive(&mut self, order: Request, done: u32) -> Result<Stepped, StoreFault>
         requires phase { self.old.file.phase ≡ Phase.Busy (Taken.Good order) done }
         requires takes { takes_words order.form ≡ true }
-        ensures cause { Counted (faults_of self.old) (faults_of self.new) result }
-        ensures rest { rest_of self.new ≡ rest_of self.old }
-        ensures count { count_of self.new ≡ count_of self.old }
+        ensures called { CallsStore self.old.sectors self.new.sectors result }
         ensures after { OnOk result (IfTold self.old self.new ((memory : List ℕ) →
             let p = physical_of self.old memory in physical_of self.new memory
             ≡ worked (change_proceeded Form.PioOut order done (seen p)) (received order done) p)) }
@@ -80,9 +76,7 @@ impl<S: Store> Drive<S> {
         requires phase { self.old.file.phase ≡ Phase.Busy (Taken.Good order) done }
         requires takes { takes_words order.form ≡ true }
         requires came { done ≢ 0 }
-        ensures cause { Counted (faults_of self.old) (faults_of self.new) result }
-        ensures rest { rest_of self.new ≡ rest_of self.old }
-        ensures count { count_of self.new ≡ count_of self.old }
+        ensures called { CallsStore self.old.sectors self.new.sectors result }
         ensures after { OnOk result (IfTold self.old self.new ((memory : List ℕ) →
             let p = physical_of self.old memory in physical_of self.new memory
             ≡ worked (writes (order.first + (done - 1)) (bytes_of p.block))

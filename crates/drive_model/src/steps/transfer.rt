@@ -3,11 +3,11 @@
 ghost use Rattle.std.specs.Prelude.{◌≡◌, ◌+◌, ◌<◌, ◌^◌, ℕ, List, Ok, IfOk, OnOk, length, true};
 ghost use Rattle.ata_taskfile.specs.Data.{moves_by_bus};
 ghost use Rattle.ata_taskfile.specs.Lawful.{IsLawfulState};
-ghost use Rattle.drive_store.specs.Store.{Counted};
 ghost use Rattle.plain_drive.specs.Change.{leaves, change_walked, change_proceeded};
 ghost use Rattle.plain_drive.specs.Physical.{seen};
 ghost use Rattle.plain_drive.specs.Step.{stepped_if, proceeded, proceeds, walked, sector_given, transferred, position_after};
-ghost use Rattle.drive_model.specs.Drive.{IfTold, count_of, faults_of, physical_of, rest_of, worked};
+ghost use Rattle.drive_model.specs.CachedStore.{CallsStore};
+ghost use Rattle.drive_model.specs.Drive.{IfTold, count_of, physical_of, worked};
 ghost use Rattle.drive_model.specs.Block.{block_of};
 
 use crate::Drive;
@@ -25,9 +25,7 @@ impl<S: Store> Drive<S> {
     ) -> Result<Stepped, StoreFault>
         requires phase { self.old.file.phase ≡ Phase.Busy (Taken.Good order) done }
         requires moves { moves_by_bus order.form ≡ true }
-        ensures cause { Counted (faults_of self.old) (faults_of self.new) result }
-        ensures rest { rest_of self.new ≡ rest_of self.old }
-        ensures count { count_of self.new ≡ count_of self.old }
+        ensures called { CallsStore self.old.sectors self.new.sectors result }
         ensures size { length memory.new ≡ length memory.old }
         ensures after { let p = physical_of self.old memory.old in
             OnOk result (IfTold self.old self.new (physical_of self.new memory.new
@@ -78,9 +76,7 @@ impl<S: Store> Drive<S> {
         requires phase { self.old.file.phase ≡ Phase.Busy (Taken.Good order) done }
         requires moves { moves_by_bus order.form ≡ true }
         requires more { done < order.count }
-        ensures cause { Counted (faults_of self.old) (faults_of self.new) result }
-        ensures rest { rest_of self.new ≡ rest_of self.old }
-        ensures count { count_of self.new ≡ count_of self.old }
+        ensures called { CallsStore self.old.sectors self.new.sectors result }
         ensures size { length memory.new ≡ length memory.old }
         ensures after { OnOk result (IfTold self.old self.new (physical_of self.new memory.new
             ≡ worked leaves (sector_given order done) (physical_of self.old memory.old))) }
@@ -103,9 +99,7 @@ impl<S: Store> Drive<S> {
         requires phase { self.old.file.phase ≡ Phase.Busy (Taken.Good order) done }
         requires moves { moves_by_bus order.form ≡ true }
         requires more { done < order.count }
-        ensures cause { Counted (faults_of self.old) (faults_of self.new) result }
-        ensures rest { rest_of self.new ≡ rest_of self.old }
-        ensures count { count_of self.new ≡ count_of self.old }
+        ensures called { CallsStore self.old.sectors self.new.sectors result }
         ensures after { let p = physical_of self.old memory.now in
             OnOk result (IfTold self.old self.new (physical_of self.new memory.now
             ≡ worked (change_walked order done (seen p)) (walked order done) p)) }

@@ -10,4 +10,4 @@ pub returns-clause-after : goal.returns-clause-after
 returns-clause-after g c =
     let stays = ap (λ (s : CachedStore _ g.S.Store). (g.S.Store.sectors s.store).told) c.end.ensures.sectors in
     worked_becomes ended ended_blind (change_without_data c.args.order.kind) (physical_of c.args.self.now []) _ _ _ _ _ _
-    c.in_ok-settle.ensures.count stays c.end.ensures.after c.in_ok-settle.ensures.after
+    c.in_ok-settle.ensures.called.count stays c.end.ensures.after c.in_ok-settle.ensures.after

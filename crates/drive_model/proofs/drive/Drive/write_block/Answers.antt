@@ -23,4 +23,4 @@ returns-clause-after g c =
     let put = subst (λ v. Becomes (λ _ _. kept_of c.put.new.self ≡ kept_after (writes (order.first + (done - 1)) v) (kept_of d.sectors))
     (g.S.Store.sectors d.sectors.store).told (g.S.Store.sectors c.put.new.self.store).told) bytes c.in_ok-put.ensures.after in
     worked_becomes (next_wanted order done) (next_blind order done) (writes (order.first + (done - 1)) (bytes_of (take d.words d.block)))
-    (physical_of d []) _ _ _ _ _ _ c.in_ok-put.ensures.count stays c.want_next.ensures.after put
+    (physical_of d []) _ _ _ _ _ _ c.in_ok-put.ensures.called.count stays c.want_next.ensures.after put
