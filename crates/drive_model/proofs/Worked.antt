@@ -1,5 +1,5 @@
 -- Work of a drive whose sectors have changed before.
-use Rattle.std.proofs.Common.{◌≡◌, ℕ, ◌+◌, ◌<◌, ◌≤◌, Bool, true, false, List, [], is_some, Option, Some, None, Result, refl, sym, ap, subst, ◌∙◌, arith}
+use Rattle.std.proofs.Common.{◌≡◌, ℕ, ◌+◌, ◌<◌, ◌≤◌, Bool, true, false, List, [], is_some, Option, Result, refl, sym, ap, subst, ◌∙◌, arith}
 use Rattle.std.specs.Prelude.{if◌then◌else◌, nat_lt, OnOk}
 use Rattle.std.proofs.lemmas.Result.{on_ok_weaker}
 use Rattle.ata_taskfile.specs.declared.Kind.{Kind}
@@ -27,7 +27,7 @@ use Rattle.plain_drive.specs.Change.{Change, leaves, change_in, change_proceeded
 use Rattle.plain_drive.specs.Physical.{Kept, Physical, cells_of, kept_after, keeping, seen, physical_step}
 use Rattle.plain_drive.specs.Step.{ended, offered, loaded, words_due, first_wanted, next_wanted, received, stepped, failed_step, proceeded, position_after}
 use Rattle.drive_model.specs.Drive.{worked}
-use Rattle.drive_model.proofs.Told.{becomes_same, becomes_so}
+use Rattle.drive_model.proofs.Told.{becomes_told, becomes_same, becomes_so}
 
 -- a drive whose sectors alone have changed
 pub kept_becomes : (p : Physical) (n : ℕ) (k new : Kept) (before after : Option (List (List ℕ))) → n ≡ p.sectors → Becomes (λ _ _. k ≡ new) before after
@@ -101,13 +101,6 @@ given_becomes order done p n k words block new before mid after same kept stays 
     let d : Device = (seen (record p { memory = memory })).device in
     let is : block ≡ words_due order.kind (order.first + done) d = all ∙ due told ∙ due_over order.kind (order.first + done) d in
     given memory ∙ (λ i. worked leaves (offered order done (is i)) (record p { sectors = same i; memory = memory; kept = kept i })))
-  where
-    -- what holds where the sectors are told
-    becomes_told : (P : Type 0) (before after : Option (List (List ℕ))) → after ≡ before → (is_some before ≡ true → P) → Becomes (λ _ _. P) before after
-    becomes_told P None None same p = tt
-    becomes_told P None (Some list) same p = absurd cc
-    becomes_told P (Some list) None same p = tt
-    becomes_told P (Some list) (Some new) same p = p refl
 
 -- the first block of a write is wanted, and the sectors stay
 pub first_becomes : (order : Request) (done : ℕ) (p : Physical) (new : List ℕ → Physical) (before after : Option (List (List ℕ))) → done ≡ 0 → after ≡ before

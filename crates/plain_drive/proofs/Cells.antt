@@ -1,8 +1,10 @@
--- The values of a cell, and what a write and a flush make of them.
-use Rattle.std.proofs.Common.{◌≡◌, ◌≢◌, ◌<◌, ◌++◌, ℕ, zero, suc, List, [], ◌∷◌, map, length, slice_index_or, refl, ap, sym, arith}
+-- The values of a cell, what a write and a flush make of them, and the cells of a physical drive.
+use Rattle.std.proofs.Common.{◌≡◌, ◌≢◌, ◌<◌, ◌+◌, ◌++◌, ℕ, zero, suc, List, [], ◌∷◌, map, length, slice_index_or, refl, ap, sym, arith}
 use Rattle.std.specs.Prelude.{Contains}
 use Rattle.ata_taskfile.specs.Device.{Cell}
+use Rattle.write_cache.specs.declared.entry.Entry.{Entry}
 use Rattle.plain_drive.specs.Plain.{values, stored, settled, current, appended, all_flushed}
+use Rattle.plain_drive.specs.Physical.{cell_of, cells_from}
 
 -- a list of one element holds that one alone
 pub contained_alone : {A : Type 0} (x y : A) → Contains (x ∷ []) y → y ≡ x
@@ -36,3 +38,10 @@ appended-others (suc s) (suc other) value (cell ∷ cells) apart = appended-othe
 pub all_flushed-stored : (cells : List Cell) → all_flushed cells ≡ stored (map current cells)
 all_flushed-stored [] = refl
 all_flushed-stored (cell ∷ cells) = ap (λ rest. settled (current cell) ∷ rest) (all_flushed-stored cells)
+
+-- the cell of a sector has its entries and its durable value
+pub cells_from-at : (n i s : ℕ) (entries : List Entry) (durable : List (List ℕ)) → s ≡ n + i → i < length durable
+    → slice_index_or (cells_from n entries durable) i (settled []) ≡ cell_of s entries (slice_index_or durable i [])
+cells_from-at n i s entries [] at below = absurd (omega arith)
+cells_from-at n zero s entries (value ∷ durable) at below = let same : n ≡ s = omega arith in ap (λ m. cell_of m entries value) same
+cells_from-at n (suc i) s entries (value ∷ durable) at below = cells_from-at (suc n) i s entries durable (omega arith) (omega arith)

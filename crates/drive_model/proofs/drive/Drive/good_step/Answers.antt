@@ -4,8 +4,7 @@ use Rattle.ata_taskfile.specs.declared.Step.TheVariants.{Good}
 use Rattle.plain_drive.specs.Physical.{seen}
 use Rattle.plain_drive.specs.Step.{acts_in, stepped_if}
 use Rattle.drive_model.specs.Drive.{physical_of}
-use Rattle.drive_model.specs.declared.cached_store.CachedStore.{CachedStore}
-use Rattle.drive_model.proofs.Told.{becomes_same}
+use Rattle.drive_model.proofs.Told.{same_told, becomes_same}
 use Rattle.drive_model.proofs.drive.Drive.good_step.Goals as goal
 
 pub returns-in-Reset-clause-answer : goal.returns-in-Reset-clause-answer
@@ -15,5 +14,5 @@ returns-in-Reset-clause-answer g c =
 
 pub returns-in-Busy-Bad-default-clause-after : goal.returns-in-Busy-Bad-default-clause-after
 returns-in-Busy-Bad-default-clause-after g c =
-    let stays = ap (λ (s : CachedStore _ g.S.Store). (g.S.Store.sectors s.store).told) c.refuse.ensures.sectors in
+    let stays = same_told _ _ c.refuse.ensures.sectors in
     becomes_same _ _ _ stays (c.refuse.ensures.after Good c.args.memory.now)

@@ -5,17 +5,17 @@ use Rattle.plain_drive.specs.Change.{writes}
 use Rattle.plain_drive.specs.Physical.{kept_after}
 use Rattle.plain_drive.specs.Step.{next_wanted}
 use Rattle.plain_drive.proofs.Ends.{block_whole}
-use Rattle.drive_model.specs.declared.cached_store.CachedStore.{CachedStore}
 use Rattle.drive_model.specs.CachedStore.{kept_of}
 use Rattle.drive_model.specs.Drive.{physical_of}
 use Rattle.drive_model.proofs.Blocks.{whole_block}
+use Rattle.drive_model.proofs.Told.{same_told}
 use Rattle.drive_model.proofs.Worked.{next_blind, worked_becomes}
 use Rattle.drive_model.proofs.drive.Drive.write_block.Goals as goal
 
 pub returns-clause-after : goal.returns-clause-after
 returns-clause-after g c =
     let order = c.args.order in let done = c.args.done in let d = c.args.self.now in
-    let stays = ap (λ (s : CachedStore _ g.S.Store). (g.S.Store.sectors s.store).told) c.want_next.ensures.sectors in
+    let stays = same_told _ _ c.want_next.ensures.sectors in
     let full : d.words ≡ 256 = block_whole d.file d.bus d.words _ order done c.requires.phase c.requires.takes c.requires.came d.lawful in
     let size : length d.block ≡ 256 = omega arith in
     let all : take d.words d.block ≡ d.block = ap (λ n. take n d.block) full ∙ whole_block d.block size in
