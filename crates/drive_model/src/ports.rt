@@ -30,7 +30,6 @@ impl<S: Store> Ports for Drive<S> {
         value
     }
 
-    #[tactic(auto, using(ata_taskfile::proofs::Lawfulness::bus_written_lawful))]
     fn write8(&mut self, reg: Reg, v: u8) {
         if reg.is_of_bus() {
             self.bus.write(reg, v);
@@ -85,7 +84,6 @@ impl<S: Store> Ports for Drive<S> {
 
 impl<S: Store> Drive<S> {
     // Writes a register of the task file.
-    #[tactic(auto, using(ata_taskfile::proofs::Lawfulness::stored_lawful, ata_taskfile::proofs::Lawfulness::command_lawful, ata_taskfile::proofs::Lawfulness::reset_lawful, ata_taskfile::proofs::Ends::bus_in_reset_lawful))]
     fn write_file(&mut self, reg: Reg, v: u8)
         requires { is_of_bus reg ≡ false }
         ensures after { device_of self.new ≡ after_write8 reg v (device_of self.old) }

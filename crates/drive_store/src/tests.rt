@@ -3,23 +3,6 @@
 use crate::{FailingStore, MemoryStore, Store, StoreFault};
 use std::test::Fail;
 
-// The bytes of a sector; None where there is no such sector.
-fn sector<S: Store>(store: &mut S, sector: u64) -> Option<Result<[u8; 512], StoreFault>> {
-    let mut into = [b'.'; 512];
-    if sector >= store.sectors() {
-        return None;
-    }
-    Some(store.get(sector, &mut into).map(|()| into))
-}
-
-// Fills a sector with one byte; None where there is no such sector.
-fn fill<S: Store>(store: &mut S, sector: u64, byte: u8) -> Option<Result<(), StoreFault>> {
-    if sector >= store.sectors() {
-        return None;
-    }
-    Some(store.set(sector, &[byte; 512]))
-}
-
 // The sector that is filled and with what, and the bytes of all three after it. A new store has zeros.
 #[test]
 fn a_set_changes_one_sector(rt: HostRuntime) -> Result<(), Fail> {
@@ -70,4 +53,21 @@ fn a_call_fails_by_its_number(rt: HostRuntime) -> Result<(), Fail> {
         assert_eq!(rt; store.faults(), faults, "call {failing}");
     }
     Ok(())
+}
+
+// The bytes of a sector; None where there is no such sector.
+fn sector<S: Store>(store: &mut S, sector: u64) -> Option<Result<[u8; 512], StoreFault>> {
+    let mut into = [b'.'; 512];
+    if sector >= store.sectors() {
+        return None;
+    }
+    Some(store.get(sector, &mut into).map(|()| into))
+}
+
+// Fills a sector with one byte; None where there is no such sector.
+fn fill<S: Store>(store: &mut S, sector: u64, byte: u8) -> Option<Result<(), StoreFault>> {
+    if sector >= store.sectors() {
+        return None;
+    }
+    Some(store.set(sector, &[byte; 512]))
 }

@@ -1,4 +1,5 @@
--- The steps of an order leave a lawful device lawful.
+-- The steps of an order leave a lawful device lawful. What ends with `_registers` speaks of registers and bus
+-- master alone, and what ends with `_lawful` of the whole state.
 use Rattle.std.proofs.Common.{◌≡◌, ◌≢◌, ℕ, Bool, true, false, ◌+◌, ◌-◌, ◌<◌, ◌≤◌, List, length, Option, Some, None, refl, subst, arith}
 use Rattle.std.specs.Prelude.{if◌then◌else◌, ◌==◌}
 use Rattle.ata_taskfile.specs.declared.Phase.{Phase}
@@ -17,92 +18,92 @@ use Rattle.bm_dma.specs.Move.{moved_as, outcome, outcome_in, bus_after, bus_next
 use Rattle.plain_drive.specs.Step.{failure_shown, position_after}
 
 -- a command that ends well
-ended-lawful : (phase : Phase) (order : Request) (done c device error : ℕ) (failed pending : Bool) (b : Bus) → phase ≡ Busy (Good order) done
+ended_registers : (phase : Phase) (order : Request) (done c device error : ℕ) (failed pending : Bool) (b : Bus) → phase ≡ Busy (Good order) done
     → moves_by_bus order.form ≡ false → AreLawful c device error failed pending phase b → AreLawful c device error failed true Idle b
-ended-lawful phase order done c device error failed pending b e still l = grind arith
+ended_registers phase order done c device error failed pending b e still l = grind arith
 
 pub ended_lawful : (f : TaskFile) (b : Bus) (words n : ℕ) (order : Request) (done : ℕ) → f.phase ≡ Busy (Good order) done → moves_by_bus order.form ≡ false
     → IsLawfulState f b words n → IsLawfulState (announced Idle f) b words n
 ended_lawful f b words n order done e still l = record {
-  registers = ended-lawful f.phase order done f.control f.device f.error f.failed f.pending b e still l.registers;
+  registers = ended_registers f.phase order done f.control f.device f.error f.failed f.pending b e still l.registers;
   within = omega arith;
   block = refl;
 }
 
 -- a walk that ends
-walk_ended-lawful : (phase : Phase) (c device error : ℕ) (failed pending : Bool) (b : Bus)
+walk_ended_registers : (phase : Phase) (c device error : ℕ) (failed pending : Bool) (b : Bus)
     → AreLawful c device error failed pending phase b → AreLawful c device error failed pending phase (walk_ended b)
-walk_ended-lawful phase c device error failed pending b l = grind arith
+walk_ended_registers phase c device error failed pending b l = grind arith
 
 pub walk_ended_lawful : (f : TaskFile) (b : Bus) (words n : ℕ) → IsLawfulState f b words n → IsLawfulState f (walk_ended b) words n
 walk_ended_lawful f b words n l = record {
-  registers = walk_ended-lawful f.phase f.control f.device f.error f.failed f.pending b l.registers;
+  registers = walk_ended_registers f.phase f.control f.device f.error f.failed f.pending b l.registers;
   within = l.within;
   block = l.block;
 }
 
 -- a command that ends well, with its walk
-transferred-lawful : (phase : Phase) (order : Request) (done c device error : ℕ) (failed pending : Bool) (b : Bus) → phase ≡ Busy (Good order) done
+transferred_registers : (phase : Phase) (order : Request) (done c device error : ℕ) (failed pending : Bool) (b : Bus) → phase ≡ Busy (Good order) done
     → AreLawful c device error failed pending phase b → AreLawful c device error failed true Idle (walk_ended b)
-transferred-lawful phase order done c device error failed pending b e l = grind arith
+transferred_registers phase order done c device error failed pending b e l = grind arith
 
 pub transferred_lawful : (f : TaskFile) (b : Bus) (words n : ℕ) (order : Request) (done : ℕ) → f.phase ≡ Busy (Good order) done
     → IsLawfulState f b words n → IsLawfulState (announced Idle f) (walk_ended b) words n
 transferred_lawful f b words n order done e l = record {
-  registers = transferred-lawful f.phase order done f.control f.device f.error f.failed f.pending b e l.registers;
+  registers = transferred_registers f.phase order done f.control f.device f.error f.failed f.pending b e l.registers;
   within = omega arith;
   block = refl;
 }
 
 -- a sector that the bus master has tried
-found-lawful : (whole last ended : Bool) (phase : Phase) (order : Request) (done c device error moved places : ℕ) (failed pending : Bool) (b : Bus)
+found_registers : (whole last ended : Bool) (phase : Phase) (order : Request) (done c device error moved places : ℕ) (failed pending : Bool) (b : Bus)
     → phase ≡ Busy (Good order) done → moves_by_bus order.form ≡ true → done < order.count → b.walk ≡ Some moved → AreLawful c device error failed pending phase b
     → AreLawful c device error failed pending (Busy (Good order) (position_after (moved_as (found_as whole last ended) places) done)) (bus_after (found_as whole last ended) moved b)
-found-lawful whole last ended phase order done c device error moved places failed pending b e moves more walks l = grind arith
+found_registers whole last ended phase order done c device error moved places failed pending b e moves more walks l = grind arith
 
-walked-lawful : (walk : Option ℕ) (memory : List ℕ) (phase : Phase) (order : Request) (done c device error : ℕ) (failed pending : Bool) (b : Bus) → b.walk ≡ walk
+walked_registers : (walk : Option ℕ) (memory : List ℕ) (phase : Phase) (order : Request) (done c device error : ℕ) (failed pending : Bool) (b : Bus) → b.walk ≡ walk
     → phase ≡ Busy (Good order) done → moves_by_bus order.form ≡ true → done < order.count → AreLawful c device error failed pending phase b
     → AreLawful c device error failed pending (Busy (Good order) (position_after (outcome_in walk b.pointer memory) done)) (bus_in walk memory b)
-walked-lawful None memory phase order done c device error failed pending b walks e moves more l =
+walked_registers None memory phase order done c device error failed pending b walks e moves more l =
     subst (λ x. AreLawful c device error failed pending x b) e l
-walked-lawful (Some moved) memory phase order done c device error failed pending b walks e moves more l =
+walked_registers (Some moved) memory phase order done c device error failed pending b walks e moves more l =
     let run = run_of b.pointer memory in
     let places = length (sector_places moved run) in
-    found-lawful (places == 512) (is_tables_end moved run) run.ended phase order done c device error moved places failed pending b e moves more walks l
+    found_registers (places == 512) (is_tables_end moved run) run.ended phase order done c device error moved places failed pending b e moves more walks l
 
 pub walked_lawful : (f : TaskFile) (b : Bus) (words n : ℕ) (order : Request) (done : ℕ) (memory : List ℕ) → f.phase ≡ Busy (Good order) done
     → moves_by_bus order.form ≡ true → done < order.count → IsLawfulState f b words n
     → IsLawfulState (record f { phase = Busy (Good order) (position_after (outcome b memory) done) }) (bus_next b memory) words n
 walked_lawful f b words n order done memory e moves more l = record {
-  registers = walked-lawful b.walk memory f.phase order done f.control f.device f.error f.failed f.pending b refl e moves more l.registers;
+  registers = walked_registers b.walk memory f.phase order done f.control f.device f.error f.failed f.pending b refl e moves more l.registers;
   within = let h = l.within in rw e at h;
   block = grind arith;
 }
 
 -- a block that waits in Data
-offered-lawful : (phase : Phase) (order : Request) (done c device error : ℕ) (failed pending : Bool) (b : Bus) → phase ≡ Busy (Good order) done
+offered_registers : (phase : Phase) (order : Request) (done c device error : ℕ) (failed pending : Bool) (b : Bus) → phase ≡ Busy (Good order) done
     → gives_words order.form ≡ true → AreLawful c device error failed pending phase b
     → AreLawful c device error failed true (Ready (Good order) done 256) b
-offered-lawful phase order done c device error failed pending b e gives l = grind arith
+offered_registers phase order done c device error failed pending b e gives l = grind arith
 
 pub offered_lawful : (f : TaskFile) (b : Bus) (words n : ℕ) (order : Request) (done : ℕ) → f.phase ≡ Busy (Good order) done → gives_words order.form ≡ true
     → IsLawfulState f b words n → IsLawfulState (announced (Ready (Good order) done 256) f) b 256 n
 offered_lawful f b words n order done e gives l = record {
-  registers = offered-lawful f.phase order done f.control f.device f.error f.failed f.pending b e gives l.registers;
+  registers = offered_registers f.phase order done f.control f.device f.error f.failed f.pending b e gives l.registers;
   within = let h = l.within in rw e at h;
   block = grind arith;
 }
 
 -- a block that is wanted in Data
-wanted-lawful : (phase : Phase) (order : Request) (done c device error : ℕ) (failed pending interrupts : Bool) (b : Bus) → phase ≡ Busy (Good order) done
+wanted_registers : (phase : Phase) (order : Request) (done c device error : ℕ) (failed pending interrupts : Bool) (b : Bus) → phase ≡ Busy (Good order) done
     → takes_words order.form ≡ true → done < order.count → AreLawful c device error failed pending phase b
     → AreLawful c device error failed interrupts (Ready (Good order) done 256) b
-wanted-lawful phase order done c device error failed pending interrupts b e takes more l = grind arith
+wanted_registers phase order done c device error failed pending interrupts b e takes more l = grind arith
 
 pub wanted_lawful : (f : TaskFile) (b : Bus) (words n : ℕ) (order : Request) (done : ℕ) → f.phase ≡ Busy (Good order) done → takes_words order.form ≡ true
     → done < order.count → IsLawfulState f b words n → IsLawfulState (announced (Ready (Good order) done 256) f) b 0 n
 wanted_lawful f b words n order done e takes more l = record {
-  registers = wanted-lawful f.phase order done f.control f.device f.error f.failed f.pending true b e takes more l.registers;
+  registers = wanted_registers f.phase order done f.control f.device f.error f.failed f.pending true b e takes more l.registers;
   within = let h = l.within in rw e at h;
   block = grind arith;
 }
@@ -118,17 +119,17 @@ pub first_wanted_lawful : (f : TaskFile) (b : Bus) (words n : ℕ) (order : Requ
 first_wanted_lawful f b words n order done e start takes l =
     let e0 : f.phase ≡ Busy (Good order) 0 = rw (← start) e in
     record {
-      registers = wanted-lawful f.phase order 0 f.control f.device f.error f.failed f.pending f.pending b e0 takes
+      registers = wanted_registers f.phase order 0 f.control f.device f.error f.failed f.pending f.pending b e0 takes
           (some_sector f.phase order 0 f.control f.device f.error f.failed f.pending b e0 takes l.registers) l.registers;
       within = let h = l.within in rw e at h;
       block = grind arith;
     }
 
 -- a command that fails, with its walk
-failed-lawful : (phase : Phase) (order : Request) (done c device new error old : ℕ) (failed pending : Bool) (b : Bus) → phase ≡ Busy (Good order) done
+failed_registers : (phase : Phase) (order : Request) (done c device new error old : ℕ) (failed pending : Bool) (b : Bus) → phase ≡ Busy (Good order) done
     → AreLawful c device old failed pending phase b
     → AreLawful c new error true true Idle (if moves_by_bus order.form then walk_ended b else b)
-failed-lawful phase order done c device new error old failed pending b e l = grind arith
+failed_registers phase order done c device new error old failed pending b e l = grind arith
 
 addressed-control : (extended : Bool) (sector : ℕ) (f : TaskFile) → (addressed extended sector f).control ≡ f.control
 addressed-control false sector f = refl
@@ -143,7 +144,7 @@ pub given_up_lawful : (error : ℕ) (f : TaskFile) (b : Bus) (words n : ℕ) (or
     → IsLawfulState (ended_failed error (failure_shown order done f)) (if moves_by_bus order.form then walk_ended b else b) words n
 given_up_lawful error f b words n order done e l = record {
   registers = rw (shown-control order done f)
-      (failed-lawful f.phase order done f.control f.device (failure_shown order done f).device error f.error f.failed f.pending b e l.registers);
+      (failed_registers f.phase order done f.control f.device (failure_shown order done f).device error f.error f.failed f.pending b e l.registers);
   within = omega arith;
   block = refl;
 }

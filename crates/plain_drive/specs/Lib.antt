@@ -1,9 +1,9 @@
 pub mod Plain
-pub mod Identify
 pub mod Words
+pub mod Identify
 pub mod Change
 pub mod Step
+pub mod Cut
 pub mod Physical
 pub mod Runs
-pub mod Cut
 pub mod Laws

@@ -1,4 +1,4 @@
--- The state of a plain drive.
+-- The state of a plain drive, the values of its cells, and bytes as words and as sectors.
 use Rattle.std.specs.Prelude.{ℕ, ◌+◌, ◌*◌, zero, suc, List, [], ◌∷◌, map, take, drop, ◌++◌, slice_index_or}
 use Rattle.ata_taskfile.specs.declared.task_file.TaskFile.{TaskFile}
 use Rattle.ata_taskfile.specs.Device.{Device, Cell, with_file}
@@ -8,9 +8,21 @@ pub record Plain : Type 0 where
   pub device : Device
   pub memory : List ℕ
 
+-- a drive with this memory
+abbrev pub plain : Device → List ℕ → Plain
+plain device memory = record { device = device; memory = memory }
+
 -- the same drive with other registers
 abbrev pub with_registers : TaskFile → Plain → Plain
 with_registers f p = record p { device = with_file f p.device }
+
+-- the same drive with other words in the block
+abbrev pub with_block : List ℕ → Plain → Plain
+with_block block p = record p { device = record p.device { block = block } }
+
+-- the same drive with other cells
+abbrev pub with_cells : List Cell → Plain → Plain
+with_cells cells p = record p { device = record p.device { cells = cells } }
 
 -- the value of a cell that a read gives: the newest (own: the disk model)
 abbrev pub current : Cell → List ℕ
@@ -46,14 +58,6 @@ flushed c = settled (current c)
 abbrev pub all_flushed : List Cell → List Cell
 all_flushed cells = map flushed cells
 
--- the same drive with other cells
-abbrev pub with_cells : List Cell → Plain → Plain
-with_cells cells p = record p { device = record p.device { cells = cells } }
-
--- the same drive with other words in the block
-abbrev pub with_block : List ℕ → Plain → Plain
-with_block block p = record p { device = record p.device { block = block } }
-
 -- the current value of a sector
 abbrev pub sector_value : ℕ → Device → List ℕ
 sector_value s d = current (slice_index_or d.cells s (settled []))
@@ -68,7 +72,3 @@ words_of (low ∷ high ∷ rest) = (low + 256 * high) ∷ words_of rest
 abbrev pub sectors_in : ℕ → List ℕ → List (List ℕ)
 sectors_in zero bytes = []
 sectors_in (suc n) bytes = take 512 bytes ∷ sectors_in n (drop 512 bytes)
-
--- a drive with this memory
-abbrev pub plain : Device → List ℕ → Plain
-plain device memory = record { device = device; memory = memory }

@@ -3,9 +3,10 @@
 //! A plain drive is a device with the guest's memory, and knows no cache, bitmap, frame or lease. Start with
 //! `specs/Plain.antt` for its state, then `specs/Step.antt` for what a good and a bad step do,
 //! `specs/Change.antt` for what they do to the sectors, and `specs/Cut.antt` for what a power cut may leave. Each
-//! access is a definition of `ata_taskfile`. `specs/Physical.antt` has a drive that keeps its sectors behind a
-//! write cache, and `specs/Runs.antt` its whole runs. The functions below are laws that show what the definitions
-//! mean; `docs/drive.md` has the same as tables.
+//! access is a definition of `ata_taskfile`; `specs/Words.antt` has many words through Data, and `specs/Identify.antt`
+//! those of IDENTIFY DEVICE. `specs/Physical.antt` has a drive that keeps its sectors behind a write cache, and
+//! `specs/Runs.antt` its whole runs. The functions below are laws that show what the definitions mean, in that order;
+//! `docs/drive.md` has the same as tables.
 
 #![tactic(auto)]
 
@@ -23,23 +24,6 @@ ghost use Rattle.plain_drive.specs.Identify.{identity};
 ghost use Rattle.plain_drive.specs.Step.{step_made, bad_step, acts};
 ghost use Rattle.plain_drive.specs.Physical.{Physical, StandsFor, fresh, physical_at_power_on, physical_accessed, physical_step, physical_destaged, physical_cut};
 ghost use Rattle.plain_drive.specs.Runs.{Happening, HasPlainRun};
-
-/// A store without writes has one cut outcome, itself.
-pub fn one_outcome_without_writes()
-    ensures { (values outcome : List (List ℕ)) →
-        IsOutcome (stored values) outcome ↔ (outcome ≡ values) }
-{}
-
-/// A flush leaves one cut outcome, the current values.
-pub fn one_outcome_after_a_flush()
-    ensures { (cells : List Cell) (outcome : List (List ℕ)) →
-        IsOutcome (all_flushed cells) outcome ↔ (outcome ≡ map current cells) }
-{}
-
-/// A cut may always leave the current values.
-pub fn current_values_are_an_outcome()
-    ensures { (cells : List Cell) → IsOutcome cells (map current cells) }
-{}
 
 /// A value that is written is the current one of its sector, and the other sectors keep all of theirs.
 pub fn a_written_value_is_current()
@@ -80,6 +64,23 @@ pub fn a_bad_step_moves_no_sector()
 pub fn steps_keep_lawful()
     ensures { (step : StepOf) (p : Plain) → HasWholeSectors p.device → IsLawful p.device
         → IsLawful (step_made step p).device }
+{}
+
+/// A store without writes has one cut outcome, itself.
+pub fn one_outcome_without_writes()
+    ensures { (values outcome : List (List ℕ)) →
+        IsOutcome (stored values) outcome ↔ (outcome ≡ values) }
+{}
+
+/// A flush leaves one cut outcome, the current values.
+pub fn one_outcome_after_a_flush()
+    ensures { (cells : List Cell) (outcome : List (List ℕ)) →
+        IsOutcome (all_flushed cells) outcome ↔ (outcome ≡ map current cells) }
+{}
+
+/// A cut may always leave the current values.
+pub fn current_values_are_an_outcome()
+    ensures { (cells : List Cell) → IsOutcome cells (map current cells) }
 {}
 
 /// A physical drive at power-on over these sectors stands for a plain one over them.

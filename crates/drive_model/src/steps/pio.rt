@@ -38,7 +38,6 @@ impl<S: Store> Drive<S> {
     }
 
     // Wants the first block of a write, or writes the block that came.
-    #[tactic(auto, using(plain_drive::proofs::Ends::block_came, plain_drive::proofs::Ends::block_whole))]
     pub(crate) fn receive(&mut self, order: Request, done: u32) -> Result<Stepped, StoreFault>
         requires phase { self.old.file.phase ≡ Phase.Busy (Taken.Good order) done }
         requires takes { takes_words order.form ≡ true }
