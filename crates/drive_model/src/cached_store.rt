@@ -44,7 +44,7 @@ impl<S: Store + Drop> CachedStore<S> {
 }
 
 impl<S: Store> CachedStore<S> {
-    ghost use Rattle.std.specs.Prelude.{◌≡◌, ◌<◌, drop, Ok, IfOk, OnOk, is_some, slice_get, true, ⊤};
+    ghost use Rattle.std.specs.Prelude.{◌≡◌, ◌<◌, drop, Ok, IfOk, OnOk, is_some, slice_get, true};
     ghost use Rattle.ata_taskfile.specs.declared.Stepped.TheVariants.{Nothing};
     ghost use Rattle.plain_drive.specs.Step.{stepped_if, words_due};
     ghost use Rattle.plain_drive.specs.Change.{change_moved, change_without_data, writes, flushes};

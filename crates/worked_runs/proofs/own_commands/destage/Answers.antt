@@ -10,7 +10,7 @@ pub returns-in-Ok : goal.returns-in-Ok
 returns-in-Ok c = λ _.
     let own = c.args.own.now in
     let d = c.args.machine.now.drive in
-    let file = c.file.ensures [] in
+    let file = c.file.ensures in
     let not_ready = c.in_default.not-Ready in
     subst (λ (p : Physical). IsRunning (job_of own) (done_of own) (seen p).device) (sym (c.in-Ok.ensures.after []))
     (destage_runs (job_of own) (done_of own) 0 (physical_of d []) (grind (arith, file, not_ready)) c.requires)
