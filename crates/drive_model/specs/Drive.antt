@@ -54,5 +54,6 @@ pub record Behind (S : Type 0) : Type 0 where
   pub cache : Cached
   pub store : S
 
+-- what stands behind those of this drive
 abbrev pub behind : {S : Type 0} {T : Ghosts S} → Drive S T → Behind S
 behind {S} {T} d = record { cache = d.sectors.cache; store = d.sectors.store }

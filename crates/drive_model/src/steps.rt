@@ -47,6 +47,7 @@ impl<S: Store> Drive<S> {
         }
     }
 
+    // A step that goes well, by the phase.
     fn good_step(&mut self, memory: &mut GuestMemory) -> Result<Stepped, StoreFault>
         ensures called { CallsStore self.old.sectors self.new.sectors result }
         ensures size { length memory.new ≡ length memory.old }
@@ -66,6 +67,7 @@ impl<S: Store> Drive<S> {
         }
     }
 
+    // A step that fails: it ends a command at which the drive is at work, and does nothing else.
     fn bad_step(&mut self) -> Stepped
         ensures after { (memory : List ℕ) →
             physical_of self.new memory ≡ physical_step Step.Bad (physical_of self.old memory) }
@@ -117,6 +119,7 @@ impl<S: Store> Drive<S> {
         Stepped::Changed
     }
 
+    // A good step of a command that wasn't refused, by the way in which its data moves.
     fn proceed(
         &mut self,
         order: Request,
