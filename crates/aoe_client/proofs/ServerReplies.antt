@@ -1,10 +1,9 @@
 -- A reply of the server that is taken has the image's sectors.
-use Rattle.std.proofs.Common.{◌≡◌, ℕ, ◌+◌, ◌*◌, ◌^◌, ◌<◌, Bool, true, false, cond, List, [], ◌++◌, length, take, drop, Some, None, Result, Ok, Err, refl, sym, ap, ◌∙◌, arith, lit<, inl, inr, length-append}
+use Rattle.std.proofs.Common.{◌≡◌, ℕ, ◌+◌, ◌*◌, ◌^◌, ◌<◌, Bool, true, false, cond, List, [], length, take, drop, Some, None, Result, Ok, Err, refl, sym, ap, ◌∙◌, arith, lit<, inl, inr}
 use Rattle.std.specs.Prelude.{◌==◌, ◌&&◌, bit_and, nat_le}
 use Rattle.std.proofs.lemmas.Bool.{cases_Bool, and_right}
 use Rattle.std.proofs.lemmas.List.{drop_at, drop-drop, take-take}
-use Rattle.byteorder.specs.Endian.{little_bytes, little_from}
-use Rattle.byteorder.specs.Numbers.{little_number-reads_back}
+use Rattle.byteorder.specs.Endian.{little_bytes}
 use Rattle.bm_host.specs.Outside.{bytes_at}
 use Rattle.aoe_frame.specs.declared.message.TheConstants.{EXTENDED}
 use Rattle.aoe_frame.specs.declared.message.Header.{Header}
@@ -16,16 +15,10 @@ use Rattle.aoe_frame.specs.declared.message.FrameFault.{FrameFault}
 use Rattle.aoe_frame.specs.declared.message.FrameFault.TheVariants.{Short, NotAoe, Version}
 use Rattle.aoe_frame.specs.Layout.{ArgumentFits, AtaFits, HasArgument, argument_written, frame_of, header_bytes}
 use Rattle.aoe_frame.specs.Reading.{IsReading}
+use Rattle.aoe_frame.proofs.Layouts.{length-header_bytes, same_little}
 use Rattle.image_server.specs.Request.{asked_in, is_heard, is_identify, is_read}
 use Rattle.image_server.specs.Reply.{ata_answer, configuration, refusal, reply, reply_to}
 use Rattle.aoe_client.specs.Messages.{Answers, IsReadOf, sectors_in}
-
-one_address : (x y : ℕ) → x < 256 ^ 6 → y < 256 ^ 6 → little_bytes 6 x ≡ little_bytes 6 y → x ≡ y
-one_address x y fits_x fits_y same =
-    sym (little_number-reads_back 6 x [] fits_x) ∙ ap (λ bytes. little_from 0 6 (bytes ++ [])) same ∙ little_number-reads_back 6 y [] fits_y
-
-header_long : (h : Header) → length h.dest ≡ 6 → length h.source ≡ 6 → length (header_bytes h) ≡ 24
-header_long h dest source = simp (length-append, dest, source)
 
 -- a request of 48-bit addresses doesn't ask what the server is
 identify_extended : (a : AtaPart) → a.flags ≡ EXTENDED → is_identify a ≡ false
@@ -84,7 +77,7 @@ module _ (sectors : ℕ) (image : List ℕ) (tag : ℕ) where
       let status : x.command ≡ t.command = cc in
       let bytes : little_bytes 6 x.lba ≡ little_bytes 6 t.lba = cc in
       let fits_x : x.lba < 2 ^ 48 = omega (arith, kept.0, fits.lba) in
-      let lba = one_address x.lba t.lba fits_x fits_t.lba bytes in
+      let lba = same_little 6 x.lba t.lba fits_x fits_t.lba bytes in
       let place : 512 * a.lba ≡ 1024 * tag = omega (arith, kept.0, lba, read.lba) in
       let many : 512 * a.count ≡ 1024 = omega (arith, kept.1, count, read.count) in
       good_answer sectors image a x refl (sym kept.2 ∙ flags ∙ read.flags) (status ∙ read.status)
@@ -141,7 +134,7 @@ module _ (sectors : ℕ) (image : List ℕ) (tag : ℕ) where
   image_sectors r asked bytes m reads is frame taken =
       let size = sizes r asked m reads is in
       let behind : drop 24 bytes ≡ argument_written m.argument =
-      ap (drop 24) frame ∙ drop_at (header_bytes m.header) (argument_written m.argument) 24 (header_long m.header size.0 size.1) in
+      ap (drop 24) frame ∙ drop_at (header_bytes m.header) (argument_written m.argument) 24 (length-header_bytes m.header size.0 size.1) in
       let says = taken.1.0.says in
       let has = rw behind at says.argument in
       ap (take 1024) (sym (drop-drop 12 24 bytes) ∙ ap (drop 12) behind

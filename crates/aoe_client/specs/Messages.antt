@@ -1,5 +1,6 @@
 -- The request for a tag, and what a frame has to say to be taken as its reply.
 use Rattle.std.specs.Prelude.{ℕ, ◌≡◌, ◌≢◌, ◌≤◌, ◌*◌, bit_and, List, [], length, take, drop}
+use Rattle.aoe_frame.specs.declared.addresses.TheConstants.{CLIENT, SERVER, SHELF, SLOT}
 use Rattle.aoe_frame.specs.declared.message.TheConstants.{ATA, EXTENDED, FAILED, REPLY, VERSION}
 use Rattle.aoe_frame.specs.declared.message.Header.{Header}
 use Rattle.aoe_frame.specs.declared.message.AtaPart.{AtaPart}
@@ -8,10 +9,11 @@ use Rattle.aoe_frame.specs.declared.message.Argument.TheVariants.{Ata, Config, O
 use Rattle.aoe_frame.specs.declared.message.Aoe.{Aoe}
 use Rattle.aoe_frame.specs.Layout.{frame_of}
 use Rattle.aoe_frame.specs.Reading.{IsMessage}
-use Rattle.aoe_client.specs.declared.tags.TheConstants.{PART_BYTES}
-use Rattle.aoe_client.specs.declared.messages.TheConstants.{CLIENT, SERVER, SHELF, TARGET, PART_SECTORS, READ_EXTENDED, READY}
+use Rattle.image_server.specs.declared.request.TheConstants.{READ_EXTENDED}
+use Rattle.image_server.specs.declared.reply.TheConstants.{GOOD_STATUS}
+use Rattle.aoe_client.specs.declared.tags.TheConstants.{PART_BYTES, PART_SECTORS}
 
--- the request for a tag: its two sectors, by an extended read (AoE r11, Issue ATA Command; the addresses are own)
+-- the request for a tag: its two sectors, by an extended read (AoE r11, Issue ATA Command; own: the addresses)
 abbrev pub request_for : ℕ → Aoe
 request_for tag = record {
   header = record {
@@ -21,36 +23,44 @@ request_for tag = record {
     flags = 0;
     error = 0;
     major = SHELF;
-    minor = TARGET;
+    minor = SLOT;
     command = ATA;
     tag = tag;
   };
-  argument = Ata (record { flags = EXTENDED; feature = 0; count = PART_SECTORS; command = READ_EXTENDED; lba = 2 * tag; body = [] });
+  argument = Ata (record {
+    flags = EXTENDED;
+    feature = 0;
+    count = PART_SECTORS;
+    command = READ_EXTENDED;
+    lba = 2 * tag;
+    body = [];
+  });
 }
 
 -- the frame of that request
 abbrev pub request_frame : ℕ → List ℕ
 request_frame tag = frame_of (request_for tag)
 
--- a header is of a reply that didn't fail, from the server to the client, to an ATA command
+-- a header is of a reply that didn't fail, from the server to the client, to an ATA command (AoE r11, common header)
 pub record IsReply (h : Header) : Type 0 where
   pub dest : h.dest ≡ CLIENT
   pub source : h.source ≡ SERVER
   pub major : h.major ≡ SHELF
-  pub minor : h.minor ≡ TARGET
+  pub minor : h.minor ≡ SLOT
   pub reply : bit_and h.flags REPLY ≢ 0
   pub well : bit_and h.flags FAILED ≡ 0
   pub command : h.command ≡ ATA
 
 -- an ATA argument answers the request for a tag: its registers are that request's, its status is that of a command that
--- ended well, and its body has the two sectors
+-- was done, and its body has the two sectors (own: longer bodies too)
 pub record IsRead (a : AtaPart) (tag : ℕ) : Type 0 where
   pub flags : a.flags ≡ EXTENDED
   pub count : a.count ≡ PART_SECTORS
-  pub status : a.command ≡ READY
+  pub status : a.command ≡ GOOD_STATUS
   pub lba : a.lba ≡ 2 * tag
   pub body : PART_BYTES ≤ length a.body
 
+-- the same of any argument: none but an ATA argument answers
 abbrev pub IsReadOf : Argument → ℕ → Type 0
 IsReadOf (Ata a) tag = IsRead a tag
 IsReadOf (Config c) tag = ⊥

@@ -3,32 +3,12 @@
 ghost use Rattle.std.specs.Prelude.{◌≡◌, ◌≢◌, ◌≤◌, ◌+◌, ◌*◌, ◌↔◌, ℕ, IsTrue, Some, length};
 ghost use Rattle.aoe_client.specs.Messages.{Answers, IsAnswer, IsRead, IsReply, request_frame};
 
-use crate::tags::PART_BYTES;
+use crate::tags::{PART_BYTES, PART_SECTORS};
 use aoe_frame::{
-    ATA, Aoe, Argument, AtaPart, Bytes, EXTENDED, FAILED, Frame, Header, REPLY, VERSION, parse,
-    write,
+    ATA, Aoe, Argument, AtaPart, Bytes, CLIENT, EXTENDED, FAILED, Frame, Header, REPLY, SERVER,
+    SHELF, SLOT, VERSION, parse, write,
 };
-
-/// The client's address (own).
-pub const CLIENT: [u8; 6] = [2, 0, 0, 0, 0, 1];
-
-/// The server's address (own).
-pub const SERVER: [u8; 6] = [2, 0, 0, 0, 0, 2];
-
-/// The server's shelf (own).
-pub const SHELF: u16 = 1;
-
-/// The server's slot in its shelf (own).
-pub const TARGET: u8 = 1;
-
-/// The sectors of a tag (own).
-pub const PART_SECTORS: u8 = 2;
-
-/// READ SECTOR(S) EXT (ATA/ATAPI-6).
-pub const READ_EXTENDED: u8 = 0x24;
-
-/// Status after a command that ended well: DRDY and the bit beside it (own).
-pub const READY: u8 = 0x50;
+use image_server::{GOOD_STATUS, READ_EXTENDED};
 
 // The request for a tag.
 pub(crate) fn request(tag: u32) -> Frame
@@ -42,7 +22,7 @@ pub(crate) fn request(tag: u32) -> Frame
             flags: 0,
             error: 0,
             major: SHELF,
-            minor: TARGET,
+            minor: SLOT,
             command: ATA,
             tag,
         },
@@ -88,7 +68,7 @@ fn is_reply(header: &Header) -> bool
     header.dest == CLIENT
         && header.source == SERVER
         && header.major == SHELF
-        && header.minor == TARGET
+        && header.minor == SLOT
         && header.flags & REPLY != 0
         && header.flags & FAILED == 0
         && header.command == ATA
@@ -99,7 +79,7 @@ fn is_read(part: &AtaPart, tag: u32) -> bool
 {
     part.flags == EXTENDED
         && part.count == PART_SECTORS
-        && part.command == READY
+        && part.command == GOOD_STATUS
         && part.lba == 2 * u64::from(tag)
         && part.body.as_slice().len() >= PART_BYTES
 }

@@ -4,7 +4,10 @@ ghost use Rattle.std.specs.Prelude.{◌≡◌, ◌+◌, ◌<◌, ◌≤◌, ◌^
 ghost use Rattle.std.specs.List.{list_all};
 ghost use Rattle.aoe_client.specs.Fetching.{due_again, due_from, is_answered, is_due};
 
-/// The bytes of a tag: two sectors (own).
+/// The sectors of a tag (own).
+pub const PART_SECTORS: u8 = 2;
+
+/// The bytes of a tag's sectors (own).
 pub const PART_BYTES: usize = 1024;
 
 /// How many ticks after its asking a slot's unanswered tags are due again (own).

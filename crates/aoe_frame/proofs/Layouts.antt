@@ -23,7 +23,8 @@ same_big : (n x y : ℕ) → x < 256 ^ n → y < 256 ^ n → big_bytes n x ≡ b
 same_big n x y fits_x fits_y e =
     sym (big_number-reads_back n x [] fits_x) ∙ ap (λ bytes. big_from 0 n (bytes ++ [])) e ∙ big_number-reads_back n y [] fits_y
 
-same_little : (n x y : ℕ) → x < 256 ^ n → y < 256 ^ n → little_bytes n x ≡ little_bytes n y → x ≡ y
+-- and the same with the lowest byte first
+pub same_little : (n x y : ℕ) → x < 256 ^ n → y < 256 ^ n → little_bytes n x ≡ little_bytes n y → x ≡ y
 same_little n x y fits_x fits_y e =
     sym (little_number-reads_back n x [] fits_x) ∙ ap (λ bytes. little_from 0 n (bytes ++ [])) e ∙ little_number-reads_back n y [] fits_y
 
@@ -37,15 +38,12 @@ behind h = big_bytes 2 ETHER_TYPE ++ (halves h.version h.flags ∷ h.error ∷ (
 same_behind : (a b : Header) → HeaderFits a → HeaderFits b → a.dest ≡ b.dest → a.source ≡ b.source → behind a ≡ behind b → a ≡ b
 unfolding behind
 same_behind a b fits_a fits_b dest source e =
-    let both : halves a.version a.flags ≡ halves b.version b.flags = cc in
-    let versions = same_halves a.version a.flags b.version b.flags fits_a.flags fits_b.flags both in
+    let versions = same_halves a.version a.flags b.version b.flags fits_a.flags fits_b.flags (cc) in
     let errors : a.error ≡ b.error = cc in
-    let major_bytes : big_bytes 2 a.major ≡ big_bytes 2 b.major = cc in
-    let majors = same_big 2 a.major b.major fits_a.major fits_b.major major_bytes in
+    let majors = same_big 2 a.major b.major fits_a.major fits_b.major (cc) in
     let minors : a.minor ≡ b.minor = cc in
     let commands : a.command ≡ b.command = cc in
-    let tag_bytes : big_bytes 4 a.tag ≡ big_bytes 4 b.tag = cc in
-    let tags = same_big 4 a.tag b.tag fits_a.tag fits_b.tag tag_bytes in
+    let tags = same_big 4 a.tag b.tag fits_a.tag fits_b.tag (cc) in
     λ i. record {
       dest = dest i;
       source = source i;
@@ -75,8 +73,7 @@ same_ata a b fits_a fits_b e bodies =
     let features : a.feature ≡ b.feature = cc in
     let counts : a.count ≡ b.count = cc in
     let commands : a.command ≡ b.command = cc in
-    let address_bytes : little_bytes 6 a.lba ≡ little_bytes 6 b.lba = cc in
-    let addresses = same_little 6 a.lba b.lba fits_a.lba fits_b.lba address_bytes in
+    let addresses = same_little 6 a.lba b.lba fits_a.lba fits_b.lba (cc) in
     λ i. record {
       flags = all_flags i;
       feature = features i;
@@ -88,15 +85,11 @@ same_ata a b fits_a fits_b e bodies =
 
 same_config : (a b : ConfigPart) → ConfigFits a → ConfigFits b → config_bytes a ≡ config_bytes b → a ≡ b
 same_config a b fits_a fits_b e =
-    let buffer_bytes : big_bytes 2 a.buffers ≡ big_bytes 2 b.buffers = cc in
-    let firmware_bytes : big_bytes 2 a.firmware ≡ big_bytes 2 b.firmware = cc in
+    let buffers = same_big 2 a.buffers b.buffers fits_a.buffers fits_b.buffers (cc) in
+    let firmwares = same_big 2 a.firmware b.firmware fits_a.firmware fits_b.firmware (cc) in
     let counts : a.count ≡ b.count = cc in
-    let both : halves a.version a.code ≡ halves b.version b.code = cc in
-    let length_bytes : big_bytes 2 a.length ≡ big_bytes 2 b.length = cc in
-    let buffers = same_big 2 a.buffers b.buffers fits_a.buffers fits_b.buffers buffer_bytes in
-    let firmwares = same_big 2 a.firmware b.firmware fits_a.firmware fits_b.firmware firmware_bytes in
-    let versions = same_halves a.version a.code b.version b.code fits_a.code fits_b.code both in
-    let lengths = same_big 2 a.length b.length fits_a.length fits_b.length length_bytes in
+    let versions = same_halves a.version a.code b.version b.code fits_a.code fits_b.code (cc) in
+    let lengths = same_big 2 a.length b.length fits_a.length fits_b.length (cc) in
     λ i. record {
       buffers = buffers i;
       firmware = firmwares i;
@@ -134,13 +127,13 @@ one_message bytes a b says_a says_b =
     says_a.argument says_b.argument says_a.fits says_b.fits in
     λ i. record { header = headers i; argument = arguments i }
 
-pub length-header_bytes : (h : Header) → HeaderFits h → length (header_bytes h) ≡ 24
-unfolding behind
-length-header_bytes h fits = rw (laid_apart h) (simp (length-append, fits.dest, fits.source) refl)
+-- a header has 24 bytes
+pub length-header_bytes : (h : Header) → length h.dest ≡ 6 → length h.source ≡ 6 → length (header_bytes h) ≡ 24
+length-header_bytes h dest source = simp (length-append, dest, source)
 
 -- bytes with a header are as many as it has
 pub header_long : (bytes : List ℕ) (h : Header) → HasHeader bytes h → 24 ≤ length bytes
-header_long bytes h has = omega (arith, ap length has.laid, length-header_bytes h has.fits, length-take 24 bytes)
+header_long bytes h has = omega (arith, ap length has.laid, length-header_bytes h has.fits.dest has.fits.source, length-take 24 bytes)
 
 take_fewer : (xs : List ℕ) → take 2 (take 12 xs) ≡ take 2 xs
 take_fewer [] = refl

@@ -1,3 +1,3 @@
-mod Layouts
+pub mod Layouts
 pub mod Readings
 mod Written

@@ -17,7 +17,7 @@ argument_says Other = tt
 -- a frame that is written says its message
 pub written_says : (m : Aoe) → Fits m → IsOf m.header.command m.argument → Says (frame_of m) m
 written_says m fits of =
-    let long = length-header_bytes m.header fits.header in
+    let long = length-header_bytes m.header fits.header.dest fits.header.source in
     let front = take_at (header_bytes m.header) (argument_written m.argument) 24 long in
     let rest = drop_at (header_bytes m.header) (argument_written m.argument) 24 long in
     record {
@@ -40,7 +40,7 @@ shortest_argument bytes Other has = omega arith
 pub written_shortest : (bytes : List ℕ) (m : Aoe) → Says bytes m → length (frame_of m) ≤ length bytes
 written_shortest bytes m says =
     let long = header_long bytes m.header says.header in
-    let header = length-header_bytes m.header says.header.fits in
+    let header = length-header_bytes m.header says.header.fits.dest says.header.fits.source in
     let argument = shortest_argument (drop 24 bytes) m.argument says.argument in
     omega (arith, length-append (header_bytes m.header) (argument_written m.argument), length-drop 24 bytes)
 
@@ -48,5 +48,5 @@ written_shortest bytes m says =
 pub written_other : (m : Aoe) → Fits m → m.argument ≡ Other → length (frame_of m) ≡ 24
 written_other m fits none =
     let nothing : length (argument_written m.argument) ≡ 0 = ap (λ a. length (argument_written a)) none in
-    let header = length-header_bytes m.header fits.header in
+    let header = length-header_bytes m.header fits.header.dest fits.header.source in
     omega (arith, length-append (header_bytes m.header) (argument_written m.argument))

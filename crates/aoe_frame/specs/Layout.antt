@@ -1,4 +1,5 @@
--- The layout of a frame: its fields in wire order, each number its highest byte first but for an ATA argument's address.
+-- The layout of a frame: its fields in wire order. Each number has its highest byte first, but for an ATA argument's
+-- address.
 use Rattle.std.specs.Prelude.{ℕ, ◌≡◌, ◌≢◌, ◌<◌, ◌≤◌, ◌+◌, ◌*◌, ◌^◌, List, [], ◌∷◌, ◌++◌, length, take, drop, ⊤}
 use Rattle.byteorder.specs.Endian.{big_bytes, little_bytes}
 use Rattle.aoe_frame.specs.declared.message.TheConstants.{ETHER_TYPE, ATA, CONFIG}
@@ -29,7 +30,8 @@ header_bytes h =
     -- 20: tag
     ++ big_bytes 4 h.tag
 
--- the 10 bytes of an ATA argument before the two reserved ones: the registers, and the address, its lowest byte first (AoE r11, Issue ATA Command)
+-- the 10 bytes of an ATA argument before the two reserved ones: the registers, and the address, its lowest byte first
+-- (AoE r11, Issue ATA Command)
 abbrev pub ata_bytes : AtaPart → List ℕ
 ata_bytes a =
     -- 24 to 27: flags; err/feature; sector count; cmd/status
@@ -76,13 +78,13 @@ pub record ConfigFits (c : ConfigPart) : Type 0 where
   pub code : c.code < 16
   pub length : c.length < 65536
 
--- the same of an argument
+-- each number of an argument fits its place
 abbrev pub ArgumentFits : Argument → Type 0
 ArgumentFits (Ata a) = AtaFits a
 ArgumentFits (Config c) = ConfigFits c
 ArgumentFits Other = ⊤
 
--- the same of a message
+-- each number of a message fits its place
 pub record Fits (m : Aoe) : Type 0 where
   pub header : HeaderFits m.header
   pub argument : ArgumentFits m.argument

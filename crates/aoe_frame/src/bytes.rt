@@ -1,12 +1,14 @@
 //! A list of bytes with a bound.
 
-ghost use Rattle.std.specs.Prelude.{◌≡◌, ◌<◌, ◌≤◌, ◌++◌, ◌∷◌, ◌↔◌, [], false, length};
+ghost use Rattle.std.specs.Prelude.{◌≡◌, ◌<◌, ◌≤◌, ◌++◌, ◌∷◌, ◌+◌, ◌↔◌, [], false, length};
 ghost use Rattle.std.specs.Bool.{OnTrue, OnFalse};
 
 use arrayvec::ArrayVec;
 use std::marker::Model;
 
-/// At most `N` bytes, which lie in the value itself. A contract sees them as a list.
+/// A list of at most `N` bytes, which lie in the value itself, so that no memory is taken for them (own).
+///
+/// A contract sees the list. The body of a frame is such a list, and so are the bytes that a line of a schedule writes.
 #[derive(Clone, Debug, Drop, PartialEq, Eq)]
 pub struct Bytes<const N: usize> {
     items: ArrayVec<u8, N>,
@@ -25,7 +27,7 @@ impl<const N: usize> Model for Bytes<N> {
 }
 
 impl<const N: usize> Bytes<N> {
-    /// No byte.
+    /// The list of no byte.
     pub fn new() -> Self
         ensures empty { result ≡ [] }
     {
@@ -34,7 +36,7 @@ impl<const N: usize> Bytes<N> {
         }
     }
 
-    /// Appends a byte. It answers false, and changes nothing, exactly where `N` bytes stand.
+    /// Appends a byte. It answers false, and changes nothing, exactly where `N` bytes stand already.
     pub fn push(&mut self, byte: u8) -> bool
         ensures taken { OnTrue result (self.new ≡ self.old ++ byte ∷ []) }
         ensures unchanged { OnFalse result (self.new ≡ self.old) }
@@ -43,16 +45,24 @@ impl<const N: usize> Bytes<N> {
         self.items.try_push(byte).is_ok()
     }
 
+    /// Appends bytes that there is room for.
+    pub fn append(&mut self, bytes: &[u8])
+        requires room { length self.old + length bytes.now ≤ N }
+        ensures appended { self.new ≡ self.old ++ bytes.now }
+    {
+        let _fits = self.items.try_extend_from_slice(bytes);
+    }
+
     pub(crate) fn of(bytes: &[u8]) -> Self
         requires few { length bytes.now ≤ N }
         ensures bytes { result ≡ bytes.now }
     {
-        let mut items = ArrayVec::new();
-        let _fits = items.try_extend_from_slice(bytes);
-        Bytes { items }
+        let mut all = Bytes::new();
+        all.append(bytes);
+        all
     }
 
-    /// The bytes in order.
+    /// The bytes, in order.
     pub fn as_slice(&self) -> &[u8]
         ensures bytes { result.now ≡ self.now }
         ensures few { length result.now ≤ N }

@@ -43,11 +43,12 @@ impl Frame {
     pub(crate) fn of(bytes: FrameBytes) -> Frame
         ensures frame { result ≡ bytes.items }
     {
+        // This call's clause says that they are at most `MOST_BYTES`.
         let _few = bytes.len();
         Frame { bytes }
     }
 
-    /// The bytes in order.
+    /// The bytes, in order.
     pub fn as_slice(&self) -> &[u8]
         ensures bytes { result.now ≡ self.now }
         ensures few { length result.now ≤ MOST_BYTES }

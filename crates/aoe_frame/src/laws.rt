@@ -23,6 +23,6 @@ pub fn a_frame_has_one_reading()
 /// A message of the version that is spoken here, whose numbers fit their places, is read back as it was written.
 #[tactic(auto, using(crate::proofs::Written::written_reads))]
 pub fn a_written_message_is_read()
-    ensures back { (m : AoeOf) → Fits m → IsOf m.header.command m.argument → m.header.version ≡ VERSION
-        → IsReading (frame_of m) (Ok m) }
+    ensures back { (m : AoeOf) → Fits m → IsOf m.header.command m.argument →
+        m.header.version ≡ VERSION → IsReading (frame_of m) (Ok m) }
 {}

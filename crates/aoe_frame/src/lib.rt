@@ -1,11 +1,13 @@
 //! Frames of ATA over Ethernet (AoE r11): their bytes, and the messages that the bytes say.
 //!
 //! Start with `message` for what a frame says, then `parse` and `write`, which go from its bytes to that and back.
-//! `specs/Layout.antt` has the one layout of the bytes that both are about, in wire order, and `specs/Reading.antt` what
-//! `parse` answers, fault by fault. `docs/network.md` has the same as tables.
+//! `addresses` names who talks. `Bytes`, a list of bytes with a bound, stands by itself: schedules use it too.
+//! `specs/Layout.antt` has the one layout of the bytes that both calls are about, in wire order, and
+//! `specs/Reading.antt` what `parse` answers, fault by fault. `docs/network.md` has the same as tables.
 
 #![tactic(auto)]
 
+mod addresses;
 mod bytes;
 mod frame;
 mod laws;
@@ -16,6 +18,7 @@ mod reading;
 mod tests;
 mod writing;
 
+pub use addresses::{ALL_SHELVES, ALL_SLOTS, CLIENT, SERVER, SHELF, SLOT};
 pub use bytes::Bytes;
 pub use frame::{Frame, MOST_BYTES};
 pub use laws::{a_frame_has_one_reading, a_written_message_is_read, bytes_say_one_message};

@@ -86,7 +86,7 @@ fn address_at(bytes: &[u8], at: usize) -> [u8; 6]
 }
 
 fn read_argument(command: u8, bytes: &[u8]) -> Option<Argument>
-    requires few { length bytes.now ≤ 1036 }
+    requires few { 24 + length bytes.now ≤ MOST_BYTES }
     ensures argument { MatchOption result (24 + length bytes.now < bytes_needed command)
         (λ a. IsOf command a × HasArgument bytes.now a × ArgumentFits a) }
 {
@@ -98,10 +98,9 @@ fn read_argument(command: u8, bytes: &[u8]) -> Option<Argument>
 }
 
 fn read_ata(bytes: &[u8]) -> Option<AtaPart>
-    requires few { length bytes.now ≤ 1036 }
+    requires few { 24 + length bytes.now ≤ MOST_BYTES }
     ensures part { MatchOption result (length bytes.now < 12)
-        (λ a. (take 10 bytes.now ≡ ata_bytes a) × (12 ≤ length bytes.now)
-        × (drop 12 bytes.now ≡ a.body) × AtaFits a) }
+        (λ a. HasArgument bytes.now (Argument.Ata a) × AtaFits a) }
 {
     if bytes.len() < 12 {
         return None;
@@ -118,7 +117,7 @@ fn read_ata(bytes: &[u8]) -> Option<AtaPart>
 
 fn read_config(bytes: &[u8]) -> Option<ConfigPart>
     ensures part { MatchOption result (length bytes.now < 8)
-        (λ c. (take 8 bytes.now ≡ config_bytes c) × ConfigFits c) }
+        (λ c. HasArgument bytes.now (Argument.Config c) × ConfigFits c) }
 {
     if bytes.len() < 8 {
         return None;

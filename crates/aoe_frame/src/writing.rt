@@ -2,12 +2,11 @@
 
 ghost use Rattle.std.specs.Prelude.{◌≡◌, ◌≤◌, ◌<◌, ◌+◌, ◌^◌, ◌++◌, ◌∷◌, List, ℕ, [], length};
 ghost use Rattle.byteorder.specs.Endian.{big_bytes, little_bytes};
-ghost use Rattle.aoe_frame.specs.Layout.{AtaFits, ConfigFits, Fits, IsOf, IsWritable, Says, ata_bytes, config_bytes, frame_of, halves, header_bytes, HeaderFits};
+ghost use Rattle.aoe_frame.specs.Layout.{AtaFits, ConfigFits, Fits, IsOf, IsWritable, Says, argument_written, frame_of, header_bytes, HeaderFits};
 
 use crate::frame::{FrameBytes, MOST_BYTES};
 use crate::{Aoe, Argument, AtaPart, ConfigPart, ETHER_TYPE, Frame, Header};
 use arrayvec::ArrayVec;
-use byteorder::{BigEndian, ByteOrder, LittleEndian};
 
 /// The shortest frame that says this (AoE r11). The two reserved bytes of an ATA argument are 0 (own).
 ///
@@ -48,25 +47,26 @@ fn write_header(header: &Header, frame: &mut FrameBytes)
 {
     append(&header.dest, frame);
     append(&header.source, frame);
-    append_u16(ETHER_TYPE, frame);
+    append(&ETHER_TYPE.to_be_bytes(), frame);
     frame.push(header.version * 16 + header.flags);
     frame.push(header.error);
-    append_u16(header.major, frame);
+    append(&header.major.to_be_bytes(), frame);
     frame.push(header.minor);
     frame.push(header.command);
-    append_u32(header.tag, frame);
+    append(&header.tag.to_be_bytes(), frame);
 }
 
 fn write_ata(part: &AtaPart, frame: &mut FrameBytes)
     requires fits { AtaFits part.now }
     requires few { length frame.old.items ≡ 24 }
-    ensures part { frame.new.items ≡ frame.old.items ++ (ata_bytes part.now ++ 0 ∷ 0 ∷ part.now.body) }
+    ensures part { frame.new.items
+        ≡ frame.old.items ++ argument_written (Argument.Ata part.now) }
 {
     frame.push(part.flags);
     frame.push(part.feature);
     frame.push(part.count);
     frame.push(part.command);
-    append_u48(part.lba, frame);
+    append(&part.lba.to_le_bytes()[..6], frame);
     append(&[0, 0], frame);
     append(part.body.as_slice(), frame);
 }
@@ -74,45 +74,14 @@ fn write_ata(part: &AtaPart, frame: &mut FrameBytes)
 fn write_config(part: &ConfigPart, frame: &mut FrameBytes)
     requires fits { ConfigFits part.now }
     requires few { length frame.old.items ≡ 24 }
-    ensures part { frame.new.items ≡ frame.old.items ++ config_bytes part.now }
+    ensures part { frame.new.items
+        ≡ frame.old.items ++ argument_written (Argument.Config part.now) }
 {
-    append_u16(part.buffers, frame);
-    append_u16(part.firmware, frame);
+    append(&part.buffers.to_be_bytes(), frame);
+    append(&part.firmware.to_be_bytes(), frame);
     frame.push(part.count);
     frame.push(part.version * 16 + part.code);
-    append_u16(part.length, frame);
-}
-
-fn append_u16(number: u16, frame: &mut FrameBytes)
-    requires room { length frame.old.items + 2 ≤ MOST_BYTES }
-    ensures items { frame.new.items ≡ frame.old.items ++ big_bytes 2 number }
-    ensures count { length frame.new.items ≡ length frame.old.items + 2 }
-{
-    let mut bytes = [0; 2];
-    BigEndian::write_u16(&mut bytes, number);
-    append(&bytes, frame);
-}
-
-fn append_u32(number: u32, frame: &mut FrameBytes)
-    requires room { length frame.old.items + 4 ≤ MOST_BYTES }
-    ensures items { frame.new.items ≡ frame.old.items ++ big_bytes 4 number }
-    ensures count { length frame.new.items ≡ length frame.old.items + 4 }
-{
-    let mut bytes = [0; 4];
-    BigEndian::write_u32(&mut bytes, number);
-    append(&bytes, frame);
-}
-
-// The lowest byte first.
-fn append_u48(number: u64, frame: &mut FrameBytes)
-    requires fits { number < 2 ^ 48 }
-    requires room { length frame.old.items + 6 ≤ MOST_BYTES }
-    ensures items { frame.new.items ≡ frame.old.items ++ little_bytes 6 number }
-    ensures count { length frame.new.items ≡ length frame.old.items + 6 }
-{
-    let mut bytes = [0; 6];
-    LittleEndian::write_u48(&mut bytes, number);
-    append(&bytes, frame);
+    append(&part.length.to_be_bytes(), frame);
 }
 
 fn append(bytes: &[u8], frame: &mut FrameBytes)

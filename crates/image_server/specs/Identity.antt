@@ -1,8 +1,10 @@
--- The 512 bytes that the server answers to IDENTIFY DEVICE, the low byte of each word first (ATA/ATAPI-6, IDENTIFY DEVICE; own: each value).
+-- The 512 bytes that the server answers to IDENTIFY DEVICE, the low byte of each word first (ATA/ATAPI-6, IDENTIFY
+-- DEVICE; own: each value).
 use Rattle.std.specs.Prelude.{ℕ, List, [], ◌∷◌, ◌++◌, codes, replicate}
 use Rattle.std.specs.Int.{bytes_low_first}
 
--- a text in words: the first character of each pair is the high byte, and so comes second (ATA/ATAPI-6, IDENTIFY DEVICE)
+-- a text in words: the first character of each pair is the high byte, and so comes second (ATA/ATAPI-6, IDENTIFY
+-- DEVICE)
 abbrev pub in_words : List ℕ → List ℕ
 in_words [] = []
 in_words (last ∷ []) = last ∷ []

@@ -1,6 +1,7 @@
 -- The server's reply to a frame, over the bytes of an image.
-use Rattle.std.specs.Prelude.{ℕ, ◌*◌, ◌==◌, if◌then◌else◌, bit_or, List, [], ◌∷◌, Option, Some, None, Result, Ok, Err}
+use Rattle.std.specs.Prelude.{ℕ, ◌*◌, ◌==◌, if◌then◌else◌, bit_or, List, [], Option, Some, None, Result, Ok, Err}
 use Rattle.bm_host.specs.Outside.{bytes_at}
+use Rattle.aoe_frame.specs.declared.addresses.TheConstants.{SERVER, SHELF, SLOT}
 use Rattle.aoe_frame.specs.declared.message.TheConstants.{VERSION, REPLY, FAILED}
 use Rattle.aoe_frame.specs.declared.message.Header.{Header}
 use Rattle.aoe_frame.specs.declared.message.AtaPart.{AtaPart}
@@ -10,19 +11,18 @@ use Rattle.aoe_frame.specs.declared.message.Argument.TheVariants.{Ata, Config, O
 use Rattle.aoe_frame.specs.declared.message.Aoe.{Aoe}
 use Rattle.aoe_frame.specs.declared.message.FrameFault.{FrameFault}
 use Rattle.aoe_frame.specs.declared.message.FrameFault.TheVariants.{Short, NotAoe, Version}
-use Rattle.image_server.specs.declared.request.TheConstants.{SHELF, SLOT}
 use Rattle.image_server.specs.declared.request.Asked.{Asked}
 use Rattle.image_server.specs.declared.request.Asked.TheVariants.{Sectors, PastTheEnd, Identity, Refused}
 use Rattle.image_server.specs.declared.reply.TheConstants.{UNKNOWN_COMMAND, BAD_ARGUMENT, OTHER_VERSION, GOOD_STATUS, FAILED_STATUS, NO_ERROR, ADDRESS_ERROR, COMMAND_ERROR}
 use Rattle.image_server.specs.Request.{is_heard, asked_in}
 use Rattle.image_server.specs.Identity.{identity}
 
--- the header of a reply: to the one who asked, from the server, of its shelf and slot, with the command and the tag of the request (AoE r11, common header)
+-- the header of a reply: to the one who asked, from the server, of its shelf and slot, with the command and the tag of
+-- the request (AoE r11, common header)
 abbrev pub reply_header : Header → ℕ → ℕ → Header
 reply_header h flags error = record {
   dest = h.source;
-  -- the server's address (own)
-  source = 2 ∷ 0 ∷ 0 ∷ 0 ∷ 0 ∷ 2 ∷ [];
+  source = SERVER;
   version = VERSION;
   flags = flags;
   error = error;
@@ -46,7 +46,8 @@ answered a error status body = record a { feature = error; command = status; bod
 
 -- the answer to an ATA argument, a line for each thing asked (own: which is served)
 abbrev pub ata_answer : Asked → ℕ → List ℕ → AtaPart → AtaPart
-ata_answer Sectors sectors image a = answered a NO_ERROR GOOD_STATUS (bytes_at (512 * a.lba) (512 * a.count) image)
+ata_answer Sectors sectors image a =
+    answered a NO_ERROR GOOD_STATUS (bytes_at (512 * a.lba) (512 * a.count) image)
 ata_answer PastTheEnd sectors image a = answered a ADDRESS_ERROR FAILED_STATUS []
 ata_answer Identity sectors image a = answered a NO_ERROR GOOD_STATUS (identity sectors)
 ata_answer Refused sectors image a = answered a COMMAND_ERROR FAILED_STATUS []
@@ -58,7 +59,8 @@ configuration = record { buffers = 64; firmware = 1; count = 2; version = VERSIO
 -- the reply to a header with an argument: only reading the configuration is served of what is done with it (own)
 abbrev pub reply_to : ℕ → List ℕ → Header → Argument → Aoe
 reply_to sectors image h (Ata a) = accepted h (Ata (ata_answer (asked_in sectors a) sectors image a))
-reply_to sectors image h (Config c) = if c.code == 0 then accepted h (Config configuration) else refusal h BAD_ARGUMENT
+reply_to sectors image h (Config c) =
+    if c.code == 0 then accepted h (Config configuration) else refusal h BAD_ARGUMENT
 reply_to sectors image h Other = refusal h UNKNOWN_COMMAND
 
 -- silence where the header isn't heard
@@ -79,13 +81,13 @@ sectors_answered PastTheEnd count = 0
 sectors_answered Identity count = 0
 sectors_answered Refused count = 0
 
--- into the reply to an argument
+-- how many go into the reply to an argument
 abbrev pub sectors_in : ℕ → Argument → ℕ
 sectors_in sectors (Ata a) = sectors_answered (asked_in sectors a) a.count
 sectors_in sectors (Config c) = 0
 sectors_in sectors Other = 0
 
--- into the reply to what a frame was read as
+-- how many go into the reply to what a frame was read as
 abbrev pub sectors_sent : ℕ → Result Aoe FrameFault → ℕ
 sectors_sent sectors (Ok m) = if is_heard m.header then sectors_in sectors m.argument else 0
 sectors_sent sectors (Err Short) = 0

@@ -1,21 +1,11 @@
-//! Bytes put into the body of a reply.
+//! The body of a reply, and a text that is put into it.
 
-ghost use Rattle.std.specs.Prelude.{◌≡◌, ◌≤◌, ◌<◌, ◌+◌, ◌*◌, ◌++◌, length};
+ghost use Rattle.std.specs.Prelude.{◌≡◌, ◌≤◌, ◌+◌, ◌++◌, length};
 ghost use Rattle.image_server.specs.Identity.{in_words};
 
 use aoe_frame::{Bytes, MOST_BODY};
 
 pub(crate) type Body = Bytes<MOST_BODY>;
-
-pub(crate) fn put(bytes: &[u8], body: &mut Body)
-    requires room { length body.old + length bytes.now ≤ MOST_BODY }
-    ensures bytes { body.new ≡ body.old ++ bytes.now }
-    ensures count { length body.new ≡ length body.old + length bytes.now }
-{
-    for byte in bytes {
-        let _room = body.push(*byte);
-    }
-}
 
 // A text in words: the first character of each pair is the high byte.
 pub(crate) fn put_text(text: &[u8], body: &mut Body)
@@ -25,9 +15,9 @@ pub(crate) fn put_text(text: &[u8], body: &mut Body)
 {
     match text {
         [first, second, rest @ ..] => {
-            put(&[*second, *first], body);
+            body.append(&[*second, *first]);
             put_text(rest, body);
         }
-        _ => put(text, body),
+        _ => body.append(text),
     }
 }

@@ -4,7 +4,7 @@ ghost use Rattle.std.specs.Prelude.{◌≡◌, ◌≤◌, ◌+◌, ◌++◌, [],
 ghost use Rattle.std.specs.Int.{bytes_low_first};
 ghost use Rattle.image_server.specs.Identity.{identity, in_words};
 
-use crate::body::{Body, put, put_text};
+use crate::body::{Body, put_text};
 
 const SERIAL_NUMBER: &[u8] = b"BMC00000000000000002";
 
@@ -18,19 +18,20 @@ pub(crate) fn identity(sectors: u64) -> Body
 {
     let count = sectors.to_le_bytes();
     let mut body = Body::new();
-    put(&[0; 20], &mut body);
+    // The parts stand in the order of `specs/Identity.antt`.
+    body.append(&[0; 20]);
     put_text(SERIAL_NUMBER, &mut body);
-    put(&[0; 6], &mut body);
+    body.append(&[0; 6]);
     put_text(FIRMWARE_REVISION, &mut body);
     put_text(MODEL_NUMBER, &mut body);
-    put(&[0; 4], &mut body);
-    put(&0x0200u16.to_le_bytes(), &mut body);
-    put(&[0; 20], &mut body);
-    put(&count[..4], &mut body);
-    put(&[0; 42], &mut body);
-    put(&0x4400u16.to_le_bytes(), &mut body);
-    put(&[0; 32], &mut body);
-    put(&count, &mut body);
-    put(&[0; 304], &mut body);
+    body.append(&[0; 4]);
+    body.append(&0x0200u16.to_le_bytes());
+    body.append(&[0; 20]);
+    body.append(&count[..4]);
+    body.append(&[0; 42]);
+    body.append(&0x4400u16.to_le_bytes());
+    body.append(&[0; 32]);
+    body.append(&count);
+    body.append(&[0; 304]);
     body
 }

@@ -4,8 +4,9 @@ ghost use Rattle.std.specs.Prelude.{◌≡◌, ◌<◌};
 ghost use Rattle.image_server.specs.Reply.{accepted, answered, configuration, refusal, reply_header};
 
 use crate::body::Body;
-use crate::request::{SHELF, SLOT};
-use aoe_frame::{Aoe, Argument, AtaPart, ConfigPart, FAILED, Header, REPLY, VERSION};
+use aoe_frame::{
+    Aoe, Argument, AtaPart, ConfigPart, FAILED, Header, REPLY, SERVER, SHELF, SLOT, VERSION,
+};
 
 /// Why a command isn't done: there is none of this byte (AoE r11, error codes).
 pub(crate) const UNKNOWN_COMMAND: u8 = 1;
@@ -17,7 +18,7 @@ pub(crate) const BAD_ARGUMENT: u8 = 2;
 pub(crate) const OTHER_VERSION: u8 = 5;
 
 /// Status after an ATA command that was done (ATA/ATAPI-6, Status register: DRDY; own: 10h beside it).
-pub(crate) const GOOD_STATUS: u8 = 0x50;
+pub const GOOD_STATUS: u8 = 0x50;
 
 /// Status after one that failed: ERR too (ATA/ATAPI-6, Status register).
 pub(crate) const FAILED_STATUS: u8 = 0x51;
@@ -30,9 +31,6 @@ pub(crate) const ADDRESS_ERROR: u8 = 0x10;
 
 /// Error: the command isn't served (ATA/ATAPI-6, Error register: ABRT).
 pub(crate) const COMMAND_ERROR: u8 = 0x04;
-
-/// The server's address (own).
-const ADDRESS: [u8; 6] = [2, 0, 0, 0, 0, 2];
 
 /// What the server has room for: 64 requests of two sectors each, and no string (own).
 pub(crate) const CONFIGURATION: ConfigPart = ConfigPart {
@@ -69,7 +67,7 @@ fn reply_header(request: &Header, flags: u8, error: u8) -> Header
 {
     Header {
         dest: request.source,
-        source: ADDRESS,
+        source: SERVER,
         version: VERSION,
         flags,
         error,

@@ -3,22 +3,10 @@
 ghost use Rattle.std.specs.Prelude.{◌≡◌, ◌<◌, ◌≤◌, ◌+◌, ◌^◌};
 ghost use Rattle.image_server.specs.Request.{asked_in, is_heard, is_identify, is_read};
 
-use aoe_frame::{AtaPart, EXTENDED, Header, REPLY, WRITE};
-
-/// The server's shelf (own).
-pub(crate) const SHELF: u16 = 1;
-
-/// The shelf of a request to all shelves (AoE r11, common header).
-pub(crate) const ALL_SHELVES: u16 = 0xffff;
-
-/// The server's slot (own).
-pub(crate) const SLOT: u8 = 1;
-
-/// The slot of a request to all slots (AoE r11, common header).
-pub(crate) const ALL_SLOTS: u8 = 0xff;
+use aoe_frame::{ALL_SHELVES, ALL_SLOTS, AtaPart, EXTENDED, Header, REPLY, SHELF, SLOT, WRITE};
 
 /// The command byte of READ SECTOR(S) EXT (ATA/ATAPI-6).
-pub(crate) const READ_EXTENDED: u8 = 0x24;
+pub const READ_EXTENDED: u8 = 0x24;
 
 /// The command byte of IDENTIFY DEVICE (ATA/ATAPI-6).
 pub(crate) const IDENTIFY: u8 = 0xec;

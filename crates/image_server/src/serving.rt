@@ -6,9 +6,9 @@ ghost use Rattle.aoe_frame.specs.declared.message.Header.{Header as HeaderOf};
 ghost use Rattle.aoe_frame.specs.Layout.{ArgumentFits, AtaFits, Fits, HeaderFits, IsOf, IsWritable, frame_of};
 ghost use Rattle.image_server.specs.Request.{asked_in};
 ghost use Rattle.image_server.specs.Reply.{ata_answer, accepted, configuration, if_heard, refusal, reply, reply_to, sectors_in, sectors_sent};
-ghost use Rattle.image_server.specs.Serving.{HasSectors, IsAnswer, LooksAtMost, LooksAtSent, OverImage};
+ghost use Rattle.image_server.specs.Serving.{HasImage, HasSectors, IsAnswer, LooksAtMost, LooksAtSent, OverImage};
 
-use crate::body::{Body, put};
+use crate::body::Body;
 use crate::identity::identity;
 use crate::reply::{
     ADDRESS_ERROR, BAD_ARGUMENT, COMMAND_ERROR, CONFIGURATION, FAILED_STATUS, GOOD_STATUS,
@@ -20,8 +20,7 @@ use bm_host::{Failed, Host, Role};
 
 /// The server's reply to a frame, over the first so many sectors of Image; None is silence (docs/network.md).
 pub fn serve<H: Host>(host: &mut H, sectors: u64, frame: &Frame) -> Result<Option<Frame>, Failed>
-    requires image { IfTold ((H.outside host.old).told Role.Image)
-        (λ image. 512 * sectors ≤ length image) }
+    requires image { HasImage sectors (H.outside host.old) }
     ensures answer { IfOk result (λ answer. OverImage sectors ((H.outside host.old).told Role.Image)
         (λ image. IsAnswer sectors image frame.now answer)) }
 
@@ -50,7 +49,8 @@ fn refuse(fault: &FrameFault) -> Option<Frame>
 
 fn refuse_version(header: &Header) -> Option<Frame>
     requires fits { HeaderFits header.now }
-    ensures answer { result ≡ option_map frame_of (if_heard header.now (refusal header.now OTHER_VERSION)) }
+    ensures answer { result
+        ≡ option_map frame_of (if_heard header.now (refusal header.now OTHER_VERSION)) }
 {
     if !is_heard(header) {
         return None;
@@ -66,8 +66,7 @@ fn serve_message<H: Host>(
 ) -> Result<Option<Frame>, Failed>
     requires fits { Fits message.now }
     requires kind { IsOf message.now.header.command message.now.argument }
-    requires image { IfTold ((H.outside host.old).told Role.Image)
-        (λ image. 512 * sectors ≤ length image) }
+    requires image { HasImage sectors (H.outside host.old) }
     ensures answer { IfOk result (λ answer. OverImage sectors ((H.outside host.old).told Role.Image)
         (λ image. answer ≡ option_map frame_of (reply sectors image (Ok message.now)))) }
     ensures cause { Counted Reads Role.Image (H.outside host.old) (H.outside host.new) result }
@@ -87,8 +86,7 @@ fn serve_message<H: Host>(
 fn reply_to<H: Host>(host: &mut H, sectors: u64, message: &Aoe) -> Result<Aoe, Failed>
     requires fits { Fits message.now }
     requires kind { IsOf message.now.header.command message.now.argument }
-    requires image { IfTold ((H.outside host.old).told Role.Image)
-        (λ image. 512 * sectors ≤ length image) }
+    requires image { HasImage sectors (H.outside host.old) }
     ensures reply { IfOk result (λ reply. OverImage sectors ((H.outside host.old).told Role.Image)
         (λ image. reply ≡ reply_to sectors image message.now.header message.now.argument)) }
     ensures fits { IfOk result Fits }
@@ -111,7 +109,8 @@ fn reply_to<H: Host>(host: &mut H, sectors: u64, message: &Aoe) -> Result<Aoe, F
 
 fn config_reply(header: &Header, part: &ConfigPart) -> Aoe
     ensures reply { result ≡ (if part.now.code == 0
-        then accepted header.now (Argument.Config configuration) else refusal header.now BAD_ARGUMENT) }
+        then accepted header.now (Argument.Config configuration)
+        else refusal header.now BAD_ARGUMENT) }
 {
     if part.code == 0 {
         accepted(header, Argument::Config(CONFIGURATION))
@@ -123,8 +122,7 @@ fn config_reply(header: &Header, part: &ConfigPart) -> Aoe
 #[tactic(auto, using(crate::proofs::Served::answer_plain, crate::proofs::Served::answer_sectors))]
 fn ata_answer<H: Host>(host: &mut H, sectors: u64, part: &AtaPart) -> Result<AtaPart, Failed>
     requires fits { AtaFits part.now }
-    requires image { IfTold ((H.outside host.old).told Role.Image)
-        (λ image. 512 * sectors ≤ length image) }
+    requires image { HasImage sectors (H.outside host.old) }
     ensures answer { IfOk result (λ answer. OverImage sectors ((H.outside host.old).told Role.Image)
         (λ image. answer ≡ ata_answer (asked_in sectors part.now) sectors image part.now)) }
     ensures fits { IfOk result AtaFits }
@@ -149,8 +147,7 @@ fn ata_answer<H: Host>(host: &mut H, sectors: u64, part: &AtaPart) -> Result<Ata
 fn read_sectors<H: Host>(host: &mut H, first: u64, count: u8) -> Result<Body, Failed>
     requires few { count ≤ 2 }
     requires address { first < 2 ^ 48 }
-    requires image { IfTold ((H.outside host.old).told Role.Image)
-        (λ image. 512 * (first + count) ≤ length image) }
+    requires image { HasImage (first + count) (H.outside host.old) }
     ensures body { IfOk result (λ body. IfTold ((H.outside host.old).told Role.Image)
         (λ image. body ≡ bytes_at (512 * first) (512 * count) image)) }
     ensures count { IfOk result (λ body. length body ≡ 512 * count) }
@@ -162,6 +159,6 @@ fn read_sectors<H: Host>(host: &mut H, first: u64, count: u8) -> Result<Body, Fa
     let sectors = &mut room[..512 * count as usize];
     host.read_at(Role::Image, 512 * first, sectors)?;
     let mut body = Body::new();
-    put(sectors, &mut body);
+    body.append(sectors);
     Ok(body)
 }
