@@ -1,4 +1,4 @@
--- What the buffers hold while frames are heard, and once they are handed over.
+-- What the buffers hold while frames are heard.
 use Rattle.std.proofs.Common.{◌≡◌, ◌≢◌, ℕ, zero, suc, ◌+◌, ◌-◌, ◌*◌, ◌<◌, ◌≤◌, Bool, true, false, List, [], ◌∷◌, ◌++◌, length, take, drop, slice_get, slice_set, Option, Some, None, refl, sym, ap, ◌∙◌, inl, inr, arith, cond}
 use Rattle.std.specs.Prelude.{nat_lt, IfSome}
 use Rattle.std.specs.List.{list_all}
@@ -17,11 +17,6 @@ use Rattle.aoe_client.specs.Fetching.{Fetching, first_tag, is_answered, is_open,
 use Rattle.aoe_client.specs.Asking.{Asking, HasRoom, HasTags, heard, buffers_heard, done_in, is_open_in, lease_in, leases_of, slot_answered, slot_filled, tags_in}
 use Rattle.aoe_client.specs.declared.client.Heard.TheVariants.{Took}
 use Rattle.aoe_client.specs.Buffers.{BothHold, Holds, IsFetched, given_from}
-
-take_sum : (m n : ℕ) (bytes : List ℕ) → take (m + n) bytes ≡ take m bytes ++ take n (drop m bytes)
-take_sum m n bytes =
-    sym (take-append-drop m (take (m + n) bytes))
-    ∙ (λ j. take-take m (m + n) bytes (omega arith) j ++ drop-take m n bytes j)
 
 get_other : (tags : List TagState) (k i : ℕ) (x : TagState) → i ≢ k → slice_get (slice_set tags k x) i ≡ slice_get tags i
 get_other [] k i x apart = refl
@@ -165,36 +160,6 @@ module _ (source : ℕ → List ℕ) (tag : ℕ) (sectors : List ℕ) (long : le
             (filled_holds one d pool refl whole ready.0 holds.0),
         filled_holds two b first refl whole_first ready_b (filled_other one d b pool refl whole ready.0 ready.2 holds.1),
       )
-
--- what was handed over, from the parts that are held
-module _ (source : ℕ → List ℕ) (bytes : List ℕ) (tag : ℕ) where
-  pub parts_given : (n : ℕ) → ((i : ℕ) → i < n → part i bytes ≡ source (tag + i)) → take (n * PART_BYTES) bytes ≡ given_from source tag n
-  parts_given zero each = refl
-  parts_given (suc n) each =
-      ap (λ m. take m bytes) (suc-mul n PART_BYTES)
-      ∙ take_sum (n * PART_BYTES) PART_BYTES bytes
-      ∙ (λ j. parts_given n (λ i below. each i (omega arith)) j ++ each n (omega arith) j)
-
-all_get : (tags : List TagState) (i : ℕ) → list_all is_answered tags ≡ true → i < length tags → slice_get tags i ≡ Some Answered
-all_get [] i all below = absurd (omega arith)
-all_get (Due ∷ tags) i all below = cc
-all_get (Sent ∷ tags) i all below = cc
-all_get (Answered ∷ tags) zero all below = refl
-all_get (Answered ∷ tags) (suc i) all below = all_get tags i all (omega arith)
-
-fetched_where : (source : ℕ → List ℕ) (block : ℕ) (f : Fetching) (pool : Region) (all : Bool) → list_all is_answered f.tags ≡ all
-    → HasTags block (Some f) → Holds source (Some f) pool
-    → IfSome (cond all (Some (f.block, f.lease)) None) (IsFetched source (tags_in block) pool)
-fetched_where source block f pool false is count holds = tt
-fetched_where source block f pool true is count holds =
-    parts_given source (bytes_of f.lease pool) (f.block * tags_in block) (tags_in block) (λ i below.
-    holds i (all_get f.tags i is (omega (arith, count))) ∙ ap (λ n. source (f.block * n + i)) count)
-
--- what is handed over holds what the source gives for the block's tags
-pub fetched_given : (source : ℕ → List ℕ) (block : ℕ) (s : Option Fetching) (pool : Region) → HasTags block s → Holds source s pool
-    → IfSome (done_in s) (IsFetched source (tags_in block) pool)
-fetched_given source block None pool count holds = tt
-fetched_given source block (Some f) pool count holds = fetched_where source block f pool (list_all is_answered f.tags) refl count holds
 
 -- a pool that serves a client has room for what its slots ask for
 pub has_room : (block room : ℕ) (s : Option Fetching) → HasTags block s → 512 * block ≤ room → HasRoom room s

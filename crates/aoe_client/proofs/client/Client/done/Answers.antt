@@ -1,4 +1,4 @@
-use Rattle.aoe_client.proofs.Buffers.{fetched_given}
+use Rattle.aoe_client.proofs.Fetched.{fetched_given}
 use Rattle.aoe_client.proofs.client.Client.done.Goals as goal
 
 pub returns-in-Demand-clause-finished : goal.returns-in-Demand-clause-finished
