@@ -67,11 +67,17 @@ then_sent (Some tag) f = f
 
 -- the client once the first due tag, where there is one, is sent
 abbrev pub next_sent : Asking → Asking
-next_sent c = record c { demand = slot_sent c.demand; background = then_sent (first_due c.demand) c.background }
+next_sent c = record c {
+  demand = slot_sent c.demand;
+  background = then_sent (first_due c.demand) c.background;
+}
 
 -- a tick of both slots
 abbrev pub both_ticked : Asking → Asking
-both_ticked c = record c { demand = option_map ticked c.demand; background = option_map ticked c.background }
+both_ticked c = record c {
+  demand = option_map ticked c.demand;
+  background = option_map ticked c.background;
+}
 
 -- whether a tag is unanswered or due in a slot
 abbrev pub is_open_in : ℕ → Option Fetching → Bool
@@ -94,7 +100,10 @@ slot_heard (Took tag) f = slot_answered (is_open_in tag f) tag f
 
 -- the client once a frame was heard
 abbrev pub heard : Heard → Asking → Asking
-heard what c = record c { demand = slot_heard what c.demand; background = slot_heard what c.background }
+heard what c = record c {
+  demand = slot_heard what c.demand;
+  background = slot_heard what c.background;
+}
 
 -- a pool once a tag's sectors are in a slot's buffer, where the tag was open in the slot
 abbrev pub slot_filled : Bool → ℕ → List ℕ → Option Fetching → Region → Region
@@ -114,10 +123,11 @@ abbrev pub done_in : Option Fetching → Option (ℕ × Held)
 done_in None = None
 done_in (Some f) = if list_all is_answered f.tags then Some (f.block, f.lease) else None
 
--- the leases that the client holds, Demand's first
+-- the lease of what is asked for
 abbrev pub lease_in : Option Fetching → List Held
 lease_in None = []
 lease_in (Some f) = f.lease ∷ []
 
+-- the leases that the client holds, Demand's first
 abbrev pub leases_of : Asking → List Held
 leases_of c = lease_in c.demand ++ lease_in c.background

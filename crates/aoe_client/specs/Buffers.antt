@@ -11,9 +11,10 @@ use Rattle.aoe_client.specs.Asking.{Asking}
 -- a slot's buffer holds of each answered tag what a source gives for it
 abbrev pub Holds : (ℕ → List ℕ) → Option Fetching → Region → Type 0
 Holds source None pool = Unit {0}
-Holds source (Some f) pool = (i : ℕ) → slice_get f.tags i ≡ Some Answered → part i (bytes_of f.lease pool) ≡ source (first_tag f + i)
+Holds source (Some f) pool =
+    (i : ℕ) → slice_get f.tags i ≡ Some Answered → part i (bytes_of f.lease pool) ≡ source (first_tag f + i)
 
--- both slots' buffers do
+-- both slots' buffers hold it
 abbrev pub BothHold : (ℕ → List ℕ) → Asking → Region → Type 0
 BothHold source c pool = Holds source c.demand pool × Holds source c.background pool
 

@@ -5,7 +5,8 @@ use Rattle.aoe_client.specs.declared.tags.TagState.{TagState}
 use Rattle.aoe_client.specs.declared.tags.TagState.TheVariants.{Due, Sent, Answered}
 use Rattle.aoe_client.specs.declared.tags.TheConstants.{PART_BYTES, RESEND_AGE}
 
--- a block that is asked for: the lease of its buffer, its number, its age in ticks, and where each of its tags stands (own)
+-- a block that is asked for: the lease of its buffer, its number, its age in ticks, and where each of its tags stands
+-- (own)
 pub record Fetching : Type 0 where
   pub lease : Held
   pub block : ℕ
@@ -61,7 +62,9 @@ due_again Answered = Answered
 
 -- a tick: at the fourth all unanswered tags are due again, and the age is 0 (own)
 abbrev pub ticked : Fetching → Fetching
-ticked f = if f.age + 1 == RESEND_AGE then record f { age = 0; tags = map due_again f.tags } else record f { age = f.age + 1 }
+ticked f =
+    if f.age + 1 == RESEND_AGE then record f { age = 0; tags = map due_again f.tags } else
+    record f { age = f.age + 1 }
 
 -- where a tag stands, where the block has it
 abbrev pub state_of : ℕ → Fetching → Option TagState
@@ -84,4 +87,5 @@ with_part i sectors bytes = written_at (i * PART_BYTES) sectors bytes
 
 -- a pool once a tag's two sectors are in the buffer
 abbrev pub with_sectors : ℕ → List ℕ → Fetching → Region → Region
-with_sectors tag sectors f pool = with_bytes f.lease pool (with_part (tag - first_tag f) sectors (bytes_of f.lease pool))
+with_sectors tag sectors f pool =
+    with_bytes f.lease pool (with_part (tag - first_tag f) sectors (bytes_of f.lease pool))

@@ -1,4 +1,5 @@
-//! Laws of the client: what the buffers hold outlasts every call that hears no frame.
+//! Laws of the client: what the buffers hold outlasts every call that hears no frame, and what they hold of the server's
+//! replies is the image's.
 
 ghost use Rattle.std.specs.Prelude.{◌≡◌, ◌*◌, ℕ, List, None, Result, Some};
 ghost use Rattle.bm_host.specs.Outside.{bytes_at};
@@ -7,12 +8,12 @@ ghost use Rattle.aoe_frame.specs.declared.message.FrameFault.{FrameFault as Faul
 ghost use Rattle.aoe_frame.specs.Layout.{frame_of};
 ghost use Rattle.aoe_frame.specs.Reading.{IsReading};
 ghost use Rattle.image_server.specs.Reply.{reply};
-ghost use Rattle.aoe_client.specs.Messages.{Answers, sectors_in};
 ghost use Rattle.mon_pool.specs.Region.{Held, Region};
 ghost use Rattle.aoe_client.specs.declared.client.Slot.{Slot as SlotOf};
 ghost use Rattle.aoe_client.specs.Asking.{Asking, both_ticked, next_sent, with_slot};
 ghost use Rattle.aoe_client.specs.Buffers.{BothHold};
 ghost use Rattle.aoe_client.specs.Fetching.{asked_for};
+ghost use Rattle.aoe_client.specs.Messages.{Answers, sectors_in};
 
 /// What a source gives, the buffers hold while tags are sent and ticks go by, and while a slot is asked in or freed: a
 /// block that is asked for has no answered tag yet.
@@ -32,6 +33,7 @@ pub fn buffers_outlast()
 /// sectors of the image.
 pub fn the_servers_sectors_are_the_images()
     ensures { (sectors : ℕ) (image : List ℕ) (tag : ℕ) (r : Result AoeOf FaultOf)
-        (asked bytes : List ℕ) (m : AoeOf) → IsReading asked r → reply sectors image r ≡ Some m → bytes ≡ frame_of m →
-        Answers bytes tag → sectors_in bytes ≡ bytes_at (1024 * tag) 1024 image }
+        (asked bytes : List ℕ) (m : AoeOf) → IsReading asked r → reply sectors image r ≡ Some m →
+        bytes ≡ frame_of m → Answers bytes tag →
+        sectors_in bytes ≡ bytes_at (1024 * tag) 1024 image }
 {}
