@@ -5,6 +5,7 @@ use crate::serve;
 use aoe_frame::Frame;
 use bm_host::{Failed, Host, MemoryHost, Role};
 use std::alloc::Global;
+use std::process::Abort;
 use std::test::Fail;
 
 // The client asks for two sectors from sector 2 on.
@@ -47,97 +48,124 @@ fn served_whole<H: Host>(host: &mut H, frame: &Frame) -> Result<Option<Frame>, F
     serve(host, bytes / 512, frame)
 }
 
-// A request, its reply, and the first and the number of the sectors that come behind.
+// The reply to a request has these bytes, and behind them so many sectors of the image, from the first on.
+fn assert_reply(
+    rt: &impl Abort,
+    alloc: Global,
+    request: &str,
+    front: &str,
+    first: u8,
+    count: u8,
+) -> Result<(), Fail> {
+    let mut bytes = bytes_of(alloc, front)?;
+    push_sectors(&mut bytes, first, count)?;
+    let reply = served(alloc, request, &[])?;
+    assert_eq!(rt; reply, Ok(Frame::from_slice(&bytes)), "{request}");
+    Ok(())
+}
+
+// Requests for sectors: a request, its reply, and the first and the number of the sectors that come behind.
+const READS: [(&str, &str, u8, u8); 4] = [
+    (
+        REQUEST,
+        "020000000001 020000000002 88a2 18 00 0001 01 00 00000001 40 00 02 50 020000000000 0000",
+        2,
+        2,
+    ),
+    // The last sector, with bits and bytes that are not looked at.
+    (
+        "020000000002 020000000001 88a2 14 99 0001 01 00 00000001 52 07 01 24 070000000000 ffff aabb",
+        "020000000001 020000000002 88a2 18 00 0001 01 00 00000001 52 00 01 50 070000000000 0000",
+        7,
+        1,
+    ),
+    // All shelves and slots.
+    (
+        "ffffffffffff 0a0b0c0d0e0f 88a2 10 00 ffff ff 00 12345678 40 00 01 24 000000000000 0000",
+        "0a0b0c0d0e0f 020000000002 88a2 18 00 0001 01 00 12345678 40 00 01 50 000000000000 0000",
+        0,
+        1,
+    ),
+    // Past the end.
+    (
+        "020000000002 020000000001 88a2 10 00 0001 01 00 00000001 40 00 02 24 070000000000 0000",
+        "020000000001 020000000002 88a2 18 00 0001 01 00 00000001 40 10 02 51 070000000000 0000",
+        0,
+        0,
+    ),
+];
+
 #[test]
-fn each_row_of_the_table(rt: HostRuntime) -> Result<(), Fail> {
-    let cases = [
-        (
-            REQUEST,
-            "020000000001 020000000002 88a2 18 00 0001 01 00 00000001 40 00 02 50 020000000000 0000",
-            (2, 2),
-        ),
-        // The last sector, with bits and bytes that are not looked at.
-        (
-            "020000000002 020000000001 88a2 14 99 0001 01 00 00000001 52 07 01 24 070000000000 ffff aabb",
-            "020000000001 020000000002 88a2 18 00 0001 01 00 00000001 52 00 01 50 070000000000 0000",
-            (7, 1),
-        ),
-        // All shelves and slots.
-        (
-            "ffffffffffff 0a0b0c0d0e0f 88a2 10 00 ffff ff 00 12345678 40 00 01 24 000000000000 0000",
-            "0a0b0c0d0e0f 020000000002 88a2 18 00 0001 01 00 12345678 40 00 01 50 000000000000 0000",
-            (0, 1),
-        ),
-        // Past the end.
-        (
-            "020000000002 020000000001 88a2 10 00 0001 01 00 00000001 40 00 02 24 070000000000 0000",
-            "020000000001 020000000002 88a2 18 00 0001 01 00 00000001 40 10 02 51 070000000000 0000",
-            (0, 0),
-        ),
-        // Without E, with W, of no sector, of three, another command, and IDENTIFY DEVICE with E.
-        (
-            "020000000002 020000000001 88a2 10 00 0001 01 00 00000001 00 00 01 24 000000000000 0000",
-            "020000000001 020000000002 88a2 18 00 0001 01 00 00000001 00 04 01 51 000000000000 0000",
-            (0, 0),
-        ),
-        (
-            "020000000002 020000000001 88a2 10 00 0001 01 00 00000001 41 00 01 24 000000000000 0000",
-            "020000000001 020000000002 88a2 18 00 0001 01 00 00000001 41 04 01 51 000000000000 0000",
-            (0, 0),
-        ),
-        (
-            "020000000002 020000000001 88a2 10 00 0001 01 00 00000001 40 00 00 24 000000000000 0000",
-            "020000000001 020000000002 88a2 18 00 0001 01 00 00000001 40 04 00 51 000000000000 0000",
-            (0, 0),
-        ),
-        (
-            "020000000002 020000000001 88a2 10 00 0001 01 00 00000001 40 00 03 24 000000000000 0000",
-            "020000000001 020000000002 88a2 18 00 0001 01 00 00000001 40 04 03 51 000000000000 0000",
-            (0, 0),
-        ),
-        (
-            "020000000002 020000000001 88a2 10 00 0001 01 00 00000001 40 00 01 20 000000000000 0000",
-            "020000000001 020000000002 88a2 18 00 0001 01 00 00000001 40 04 01 51 000000000000 0000",
-            (0, 0),
-        ),
-        (
-            "020000000002 020000000001 88a2 10 00 0001 01 00 00000001 40 00 00 ec 000000000000 0000",
-            "020000000001 020000000002 88a2 18 00 0001 01 00 00000001 40 04 00 51 000000000000 0000",
-            (0, 0),
-        ),
-        // Query Config: reading the string, and another way.
-        (
-            "020000000002 020000000001 88a2 10 00 0001 01 01 00000001 0000 0000 00 10 0000",
-            "020000000001 020000000002 88a2 18 00 0001 01 01 00000001 0040 0001 02 10 0000",
-            (0, 0),
-        ),
-        (
-            "020000000002 020000000001 88a2 10 00 0001 01 01 00000001 0000 0000 00 13 0001 78",
-            "020000000001 020000000002 88a2 1c 02 0001 01 01 00000001",
-            (0, 0),
-        ),
-        // Another command, and another version, whatever is behind the header.
-        (
-            "020000000002 020000000001 88a2 10 00 0001 01 02 00000001",
-            "020000000001 020000000002 88a2 1c 01 0001 01 02 00000001",
-            (0, 0),
-        ),
-        (
-            "020000000002 020000000001 88a2 20 00 0001 01 00 00000001",
-            "020000000001 020000000002 88a2 1c 05 0001 01 00 00000001",
-            (0, 0),
-        ),
-    ];
-    for (request, front, (first, count)) in cases {
-        let mut bytes = bytes_of(rt.alloc(), front)?;
-        push_sectors(&mut bytes, first, count)?;
-        let reply = served(rt.alloc(), request, &[])?;
-        assert_eq!(rt; reply, Ok(Frame::from_slice(&bytes)), "{request}");
+fn requests_for_sectors(rt: HostRuntime) -> Result<(), Fail> {
+    for (request, front, first, count) in READS {
+        assert_reply(&rt, rt.alloc(), request, front, first, count)?;
     }
     Ok(())
 }
 
-// Cut, of another type, a reply, of another shelf, of another slot, and two of another version.
+// ATA commands that are refused, each with its reply: without E, with W, of no sector, of three, another command, and
+// IDENTIFY DEVICE with E.
+const REFUSED: [(&str, &str); 6] = [
+    (
+        "020000000002 020000000001 88a2 10 00 0001 01 00 00000001 00 00 01 24 000000000000 0000",
+        "020000000001 020000000002 88a2 18 00 0001 01 00 00000001 00 04 01 51 000000000000 0000",
+    ),
+    (
+        "020000000002 020000000001 88a2 10 00 0001 01 00 00000001 41 00 01 24 000000000000 0000",
+        "020000000001 020000000002 88a2 18 00 0001 01 00 00000001 41 04 01 51 000000000000 0000",
+    ),
+    (
+        "020000000002 020000000001 88a2 10 00 0001 01 00 00000001 40 00 00 24 000000000000 0000",
+        "020000000001 020000000002 88a2 18 00 0001 01 00 00000001 40 04 00 51 000000000000 0000",
+    ),
+    (
+        "020000000002 020000000001 88a2 10 00 0001 01 00 00000001 40 00 03 24 000000000000 0000",
+        "020000000001 020000000002 88a2 18 00 0001 01 00 00000001 40 04 03 51 000000000000 0000",
+    ),
+    (
+        "020000000002 020000000001 88a2 10 00 0001 01 00 00000001 40 00 01 20 000000000000 0000",
+        "020000000001 020000000002 88a2 18 00 0001 01 00 00000001 40 04 01 51 000000000000 0000",
+    ),
+    (
+        "020000000002 020000000001 88a2 10 00 0001 01 00 00000001 40 00 00 ec 000000000000 0000",
+        "020000000001 020000000002 88a2 18 00 0001 01 00 00000001 40 04 00 51 000000000000 0000",
+    ),
+];
+
+// Requests of another command or version, each with its reply.
+const OTHERS: [(&str, &str); 4] = [
+    // Query Config: reading the string, and another way.
+    (
+        "020000000002 020000000001 88a2 10 00 0001 01 01 00000001 0000 0000 00 10 0000",
+        "020000000001 020000000002 88a2 18 00 0001 01 01 00000001 0040 0001 02 10 0000",
+    ),
+    (
+        "020000000002 020000000001 88a2 10 00 0001 01 01 00000001 0000 0000 00 13 0001 78",
+        "020000000001 020000000002 88a2 1c 02 0001 01 01 00000001",
+    ),
+    // An unknown command, and another version, whatever is behind the header.
+    (
+        "020000000002 020000000001 88a2 10 00 0001 01 02 00000001",
+        "020000000001 020000000002 88a2 1c 01 0001 01 02 00000001",
+    ),
+    (
+        "020000000002 020000000001 88a2 20 00 0001 01 00 00000001",
+        "020000000001 020000000002 88a2 1c 05 0001 01 00 00000001",
+    ),
+];
+
+#[test]
+fn requests_without_sectors(rt: HostRuntime) -> Result<(), Fail> {
+    for (request, reply) in REFUSED {
+        assert_reply(&rt, rt.alloc(), request, reply, 0, 0)?;
+    }
+    for (request, reply) in OTHERS {
+        assert_reply(&rt, rt.alloc(), request, reply, 0, 0)?;
+    }
+    Ok(())
+}
+
+// Frames that get no reply: cut, of another type, a reply, of another shelf, of another slot, and two of another version.
 #[test]
 fn each_silence(rt: HostRuntime) -> Result<(), Fail> {
     let cases = [
