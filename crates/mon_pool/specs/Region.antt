@@ -7,7 +7,7 @@ pub record Held : Type 0 where
   pub pool : Ptr
   pub slot : ℕ
 
--- a pool: where its block lies, the bytes of a slot, which slots are free, and the block, slot after slot (own)
+-- a pool: where its block lies, how many bytes a slot has, which slots are free, and the block, slot after slot (own)
 pub record Region : Type 0 where
   pub place : Ptr
   pub room : ℕ
@@ -27,13 +27,15 @@ all_free place slots room = record {
 abbrev pub IsWhole : Region → Type 0
 IsWhole pool = length pool.block ≡ length pool.free * pool.room
 
--- how many slots there are, how many are free, and how many are out
+-- how many slots there are
 abbrev pub slots_of : Region → ℕ
 slots_of pool = length pool.free
 
+-- how many are free
 abbrev pub free_of : Region → ℕ
 free_of pool = count_by (λ free. free) pool.free
 
+-- how many are out: each with the holder of its lease
 abbrev pub out_of : Region → ℕ
 out_of pool = count_by not pool.free
 

@@ -9,6 +9,7 @@ use crate::Pool;
 pub fn a_pool_is_whole(pool: &Pool)
     ensures { IsWhole pool.now }
 {
+    // This call's clause says it.
     let _room = pool.room();
 }
 

@@ -64,12 +64,12 @@ impl Pool {
     }
 
     /// The lease's bytes.
+    #[tactic(auto, using(crate::proofs::Slots::slot_within))]
     pub fn bytes(&self, lease: &Lease) -> &[u8]
         requires { IsOf lease.now self.now }
         ensures value { result.now ≡ bytes_of lease.now self.now }
         ensures long { length result.now ≡ self.now.room }
     {
-        let _within = self.block.len();
         let at = lease.slot * self.room;
         &self.block[at..at + self.room]
     }
@@ -104,13 +104,14 @@ impl Pool {
         self.free.iter().filter(|free| **free).count() as u32
     }
 
+    // The lowest free slot.
     fn first_free(&self) -> Option<usize>
         ensures { result ≡ first_free self.now }
     {
         self.free.iter().position(|free| *free)
     }
 
-    // The bytes of a slot.
+    // How many bytes a slot has.
     pub(crate) fn room(&self) -> usize
         ensures room { result ≡ self.now.room }
         ensures whole { IsWhole self.now }

@@ -3,7 +3,8 @@
 use crate::Pool;
 use std::test::Fail;
 
-// Four are leased, and no fifth until one of them is given back. What was written stays its holder's.
+// Four are leased, and a fifth once one of them is given back. What was written stays its holder's, and the fifth finds
+// what the one before it left.
 #[test]
 fn a_pool_of_four(rt: HostRuntime) -> Result<(), Fail> {
     let mut pool = Pool::new(rt.alloc(), 4, 2)?;
