@@ -60,6 +60,17 @@ fn refuse(client: &mut Client, pool: &mut Pool, lease: Lease)
     }
 }
 
+// The client sends the requests for these tags in this order, each with the low byte of its address, and then no more.
+fn assert_sends(rt: &impl Abort, client: &mut Client, requests: &[(u8, u8)])
+    ensures leases { leases_of client.new ≡ leases_of client.old }
+    ensures size { client.new.block ≡ client.old.block }
+{
+    for (tag, low) in requests {
+        assert_eq!(rt; client.next_send(), request(*tag, *low), "tag {tag}");
+    }
+    assert_eq!(rt; client.next_send(), None, "behind the last");
+}
+
 // The tags are sent in rising order, and a slot in use hands a second lease back.
 #[test]
 fn a_block_is_asked_for(rt: HostRuntime) -> Result<(), Fail> {
@@ -68,11 +79,7 @@ fn a_block_is_asked_for(rt: HostRuntime) -> Result<(), Fail> {
     let mut client = asking(&rt, &mut pool);
     let lease = other.take().expect(&rt, "a free slot");
     refuse(&mut client, &mut other, lease);
-    assert_eq!(rt; client.next_send(), request(0, 0));
-    assert_eq!(rt; client.next_send(), request(1, 2));
-    assert_eq!(rt; client.next_send(), request(2, 4));
-    assert_eq!(rt; client.next_send(), request(3, 6));
-    assert_eq!(rt; client.next_send(), None);
+    assert_sends(&rt, &mut client, &[(0, 0), (1, 2), (2, 4), (3, 6)]);
     client.end(&mut pool);
     Ok(())
 }
@@ -83,9 +90,7 @@ fn a_block_is_asked_for(rt: HostRuntime) -> Result<(), Fail> {
 fn replies_are_heard(rt: HostRuntime) -> Result<(), Fail> {
     let mut pool = Pool::new(rt.alloc(), 1, 4096)?;
     let mut client = asking(&rt, &mut pool);
-    for _ in 0..4usize {
-        client.next_send();
-    }
+    assert_sends(&rt, &mut client, &[(0, 0), (1, 2), (2, 4), (3, 6)]);
     let heard = [
         (reply(1, 2, 0x50, 1024), Heard::Took(1)),
         (reply(1, 2, 0x50, 1024), Heard::Ignored),
@@ -100,10 +105,7 @@ fn replies_are_heard(rt: HostRuntime) -> Result<(), Fail> {
         assert_eq!(rt; client.due(0), None, "tick {tick}");
         client.tick();
     }
-    assert_eq!(rt; client.next_send(), request(0, 0));
-    assert_eq!(rt; client.next_send(), request(2, 4));
-    assert_eq!(rt; client.next_send(), request(3, 6));
-    assert_eq!(rt; client.next_send(), None);
+    assert_sends(&rt, &mut client, &[(0, 0), (2, 4), (3, 6)]);
     client.end(&mut pool);
     Ok(())
 }
