@@ -68,6 +68,7 @@ impl Net {
         self.take(way, k).is_some()
     }
 
+    // A copy of frame `k` of a list.
     fn copy(&self, way: Way, k: u32) -> Option<Frame>
         ensures { result ≡ slice_get (going way self.now) k }
     {
@@ -77,6 +78,7 @@ impl Net {
         }
     }
 
+    // Takes frame `k` out of a list.
     fn take(&mut self, way: Way, k: u32) -> Option<Frame>
         ensures after { self.new ≡ without way k self.old }
         ensures frame { result ≡ slice_get (going way self.old) k }
@@ -92,5 +94,6 @@ impl Net {
 pub fn no_more_frames_than_room(net: &Net)
     ensures { IsWithin net.now }
 {
-    let _within = (net.to_server.within(), net.to_client.within());
+    // The clauses of these calls say it.
+    let _within = (net.to_server.len(), net.to_client.len());
 }

@@ -68,7 +68,8 @@ impl Ring {
         self.frames.pop_front()
     }
 
-    pub(crate) fn within(&self) -> usize
+    // How many frames are there.
+    pub(crate) fn len(&self) -> usize
         ensures length { result ≡ length self.now }
         ensures within { result ≤ MOST_FRAMES }
     {
