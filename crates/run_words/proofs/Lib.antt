@@ -1,4 +1,3 @@
-pub mod Decimals
 pub mod Splits
 pub mod Refusals
 pub mod Once

@@ -1,12 +1,11 @@
 -- Words say one choice at most.
-use Rattle.std.proofs.Common.{ℕ, ◌≡◌, ◌<◌, ◌^◌, List, ap, arith, Option, Some, None, IfSome, IfNone, drop}
+use Rattle.std.proofs.Common.{ℕ, ◌≡◌, ◌<◌, ◌^◌, List, ap, sym, ◌∙◌, arith, Option, Some, None, IfSome, IfNone, drop}
 use Rattle.std.specs.Option.{option_map}
 use Rattle.std.proofs.lemmas.Fmt.{decimal_injective}
 use Rattle.run_words.specs.declared.Mode.{Mode}
 use Rattle.run_words.specs.declared.Options.{Options}
 use Rattle.run_words.specs.Pairs.{Pair, pairs}
-use Rattle.run_words.specs.Options.{Choice, FileNames, Sizes, mode_text, seen, IsNumberIn, Says, SaysPairs, SaysFiles, SaysSizes}
-use Rattle.run_words.proofs.Decimals.{number_once}
+use Rattle.run_words.specs.Options.{Choice, FileNames, Sizes, mode_text, seen, IsNumber, IsNumberIn, Says, SaysPairs, SaysFiles, SaysSizes}
 
 -- a value is one text
 value_once : (value : Option (List ℕ)) (a b : List ℕ) → value ≡ Some a → value ≡ Some b → a ≡ b
@@ -16,7 +15,12 @@ value_once value a b one other = cc
 mode_once : (a b : Mode) → mode_text a ≡ mode_text b → a ≡ b
 mode_once a b same = grind arith
 
--- a value says one number in some bounds
+-- a value says one number
+pub number_once : (default : ℕ) (value : Option (List ℕ)) (m n : ℕ) → m < 2 ^ 64 → n < 2 ^ 64 → IsNumber default value m → IsNumber default value n → m ≡ n
+number_once default None m n low high one other = one ∙ sym other
+number_once default (Some text) m n low high one other = decimal_injective m n low high (sym one ∙ other)
+
+-- the same in some bounds
 in_once : (least most default : ℕ) (value : Option (List ℕ)) (m n : ℕ) → most < 2 ^ 64 → IsNumberIn least most default value m → IsNumberIn least most default value n → m ≡ n
 in_once least most default value m n small one other =
     number_once default value m n (omega arith) (omega arith) one.0 other.0

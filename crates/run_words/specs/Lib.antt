@@ -1,3 +1,2 @@
-pub mod Decimal
 pub mod Pairs
 pub mod Options

@@ -10,9 +10,10 @@ ghost use Rattle.run_words.specs.Options.{Choice, FileNames, Sizes as SizesOf, s
 ghost use Rattle.run_words.specs.Options.{are_different as are_different_of, SaysBlock, SaysMemory};
 ghost use Rattle.run_words.specs.Options.{Says, SaysPairs, SaysFiles, SaysSizes};
 
-use crate::numbers::{number_in, number_of};
+use crate::numbers::number_in;
 use crate::pairs::{are_options, value_of};
 use crate::{Mode, Options};
+use decimal_text::number_of;
 
 // The names of the five files.
 #[derive(Clone, Copy)]
@@ -69,7 +70,7 @@ fn read_given(given: &[String]) -> Option<Options<'_>>
     }
     let files = read_files(given)?;
     let mode = mode_of(value_of(given, "--mode")?)?;
-    let id = number_of(value_of(given, "--id")?)?;
+    let id = number_of(value_of(given, "--id")?.as_bytes())?;
     let sizes = read_sizes(given)?;
     Some(Options {
         image: files.image,
@@ -169,7 +170,7 @@ fn read_sizes(given: &[String]) -> Option<Sizes>
     })
 }
 
-#[tactic(auto, using(crate::proofs::Decimals::number_once))]
+#[tactic(auto, using(crate::proofs::Once::number_once))]
 fn block_in(value: Option<&str>) -> Option<u64>
     ensures block { MatchOption result ((n : ℕ) → ¬ SaysBlock (option_copied value.entry) n)
         (λ n. SaysBlock (option_copied value.entry) n) }
@@ -181,7 +182,7 @@ fn block_in(value: Option<&str>) -> Option<u64>
     }
 }
 
-#[tactic(auto, using(crate::proofs::Decimals::number_once))]
+#[tactic(auto, using(crate::proofs::Once::number_once))]
 fn memory_in(value: Option<&str>) -> Option<u64>
     ensures memory { MatchOption result ((n : ℕ) → ¬ SaysMemory (option_copied value.entry) n)
         (λ n. SaysMemory (option_copied value.entry) n) }

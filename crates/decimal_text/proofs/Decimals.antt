@@ -1,13 +1,12 @@
--- Decimal digits and the numbers that they are the text of.
-use Rattle.std.proofs.Common.{ℕ, ◌≡◌, ◌<◌, ◌^◌, List, [], ◌∷◌, zero, suc, length, decimal, ap, sym, ◌∙◌, subst, arith, rules, IsTrue, Option, Some, None}
+-- Decimals and the numbers that they are the texts of.
+use Rattle.std.proofs.Common.{ℕ, ◌≡◌, ◌<◌, ◌^◌, List, [], ◌∷◌, zero, suc, length, decimal, ap, sym, ◌∙◌, subst, arith, rules, IsTrue}
 use Rattle.std.specs.Str.Parse.{AllDigits, digits_value}
 use Rattle.std.specs.List.{list_all}
 use Rattle.std.specs.Char.{is_ascii_digit}
 use Rattle.std.proofs.lemmas.Str.Parse.{IsNumeralModel, numerals_by_value, digit_from_value}
-use Rattle.std.proofs.lemmas.Fmt.{decimal-digits_value, decimal_is_IsNumeral, first_decimal, decimal_digit, decimal_injective}
+use Rattle.std.proofs.lemmas.Fmt.{decimal-digits_value, decimal_is_IsNumeral, first_decimal, decimal_digit}
 use Rattle.std.proofs.lemmas.Bool.Decides.{nat_tests}
-use Rattle.run_words.specs.Decimal.{IsDecimal}
-use Rattle.run_words.specs.Options.{IsNumber}
+use Rattle.decimal_text.specs.Decimal.{IsDecimal}
 
 -- std's words for digits are their own model
 own : IsNumeralModel (AllDigits 10) (digits_value 10)
@@ -18,7 +17,7 @@ pub decimal_of : (digits : List ℕ) → IsDecimal digits → digits_value 10 di
 decimal_of digits (numeral, single) small = sym (decimal-digits_value own digits numeral.1 numeral.0 single small)
 
 -- and the text of a number is a decimal, of that value
-decimal_told : (n : ℕ) → n < 2 ^ 64 → IsDecimal (decimal n) × (digits_value 10 (decimal n) ≡ n)
+pub decimal_told : (n : ℕ) → n < 2 ^ 64 → IsDecimal (decimal n) × (digits_value 10 (decimal n) ≡ n)
 decimal_told zero small =
     let told = decimal_is_IsNumeral 0 small in
     ((told.0, (λ e. ap length (decimal_digit 0 (omega arith)))), told.1)
@@ -34,11 +33,6 @@ no_decimal text refused n small is = refused (subst IsDecimal (sym is) (decimal_
 -- nor is one whose value is too large
 pub value_told : (text : List ℕ) (n : ℕ) → n < 2 ^ 64 → text ≡ decimal n → digits_value 10 text ≡ n
 value_told text n small is = ap (digits_value 10) is ∙ (decimal_told n small).1
-
--- a value says one number
-pub number_once : (default : ℕ) (value : Option (List ℕ)) (m n : ℕ) → m < 2 ^ 64 → n < 2 ^ 64 → IsNumber default value m → IsNumber default value n → m ≡ n
-number_once default None m n low high one other = one ∙ sym other
-number_once default (Some text) m n low high one other = decimal_injective m n low high (sym one ∙ other)
 
 -- ASCII digits are what std reads as digits
 pub only_digits : (t : List ℕ) → IsTrue (list_all is_ascii_digit t) → AllDigits 10 t
