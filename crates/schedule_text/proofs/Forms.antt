@@ -3,12 +3,13 @@ use Rattle.std.proofs.Common.{ℕ, ◌≡◌, ◌≢◌, ◌<◌, ◌≤◌, ◌
 use Rattle.std.specs.Str.Parse.{digits_value}
 use Rattle.std.proofs.lemmas.List.{append_cancel_left}
 use Rattle.ata_taskfile.specs.declared.Reg.{Reg}
+use Rattle.decimal_text.specs.Decimal.{IsDecimal}
+use Rattle.decimal_text.proofs.Decimals.{decimal_told}
 use Rattle.schedule_text.specs.declared.Event.{Event}
 use Rattle.schedule_text.specs.declared.LineFault.{LineFault}
 use Rattle.schedule_text.specs.declared.LineFault.TheVariants as fault
 use Rattle.schedule_text.specs.declared.TheConstants.{LINE_BYTES}
-use Rattle.schedule_text.specs.Line.{register_text, hex_byte, hex_text, hex_long, AreSomeBytes, IsDecimal, IsBeyond, ReadsNumber, Says, HasBeyond, IsFormless, HasFault}
-use Rattle.schedule_text.proofs.Numbers.{decimal_told}
+use Rattle.schedule_text.specs.Line.{register_text, hex_byte, hex_text, hex_long, AreSomeBytes, IsBeyond, ReadsNumber, Says, HasBeyond, IsFormless, HasFault}
 use Rattle.schedule_text.proofs.Hex.{byte_at}
 use Rattle.schedule_text.proofs.Grammar.{told, told_said}
 

@@ -5,13 +5,13 @@ use Rattle.std.proofs.lemmas.Fmt.{length-decimal-le}
 use Rattle.ata_taskfile.specs.declared.Reg.{Reg}
 use Rattle.ata_taskfile.specs.declared.Reg.TheVariants as reg
 use Rattle.ata_taskfile.specs.declared.Step.TheVariants as step
+use Rattle.decimal_text.proofs.Decimals.{decimal_told}
 use Rattle.schedule_text.specs.declared.Event.{Event}
 use Rattle.schedule_text.specs.declared.Event.TheVariants as event
 use Rattle.schedule_text.specs.declared.LineFault.{LineFault}
 use Rattle.schedule_text.specs.declared.LineFault.TheVariants as fault
 use Rattle.schedule_text.specs.declared.TheConstants.{LINE_BYTES}
 use Rattle.schedule_text.specs.Line.{register_text, hex_byte, hex_text, hex_long, IsInRange, IsTextOf, Says, IsOutOfRange, Reads}
-use Rattle.schedule_text.proofs.Numbers.{decimal_told}
 use Rattle.schedule_text.proofs.Hex.{told_bytes, told_bytes-hex_text, told_long, told_long-hex_long, byte_value, byte_value-hex_byte, length-hex_text}
 
 -- the register that two bytes name

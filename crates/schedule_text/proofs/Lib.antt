@@ -1,4 +1,3 @@
-pub mod Numbers
 pub mod Hex
 pub mod Grammar
 pub mod Forms

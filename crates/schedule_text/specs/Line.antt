@@ -1,11 +1,12 @@
 -- The grammar of one line of a schedule: by the text of each event.
-use Rattle.std.specs.Prelude.{ℕ, ◌≡◌, ◌<◌, ◌≤◌, ◌+◌, ◌/◌, ◌%◌, ◌^◌, ◌++◌, ◌⊎◌, List, [], ◌∷◌, length, codes, decimal, slice_index, nat_lt, if◌then◌else◌, Result, Ok, Err, MatchResult}
+use Rattle.std.specs.Prelude.{ℕ, ◌≡◌, ◌<◌, ◌≤◌, ◌+◌, ◌/◌, ◌%◌, ◌^◌, ◌++◌, ◌⊎◌, List, [], ◌∷◌, length, codes, decimal, nat_lt, if◌then◌else◌, Result, Ok, Err, MatchResult}
 use Rattle.std.specs.List.{AllByRecursion, flat_map}
 use Rattle.std.specs.Int.{w32, to_be_bytes}
-use Rattle.std.specs.Str.Parse.{IsNumeral, digits_value}
+use Rattle.std.specs.Str.Parse.{digits_value}
 use Rattle.ata_taskfile.specs.declared.Reg.{Reg}
 use Rattle.ata_taskfile.specs.declared.Reg.TheVariants as reg
 use Rattle.ata_taskfile.specs.declared.Step.TheVariants as step
+use Rattle.decimal_text.specs.Decimal.{IsDecimal}
 use Rattle.schedule_text.specs.declared.Event.{Event}
 use Rattle.schedule_text.specs.declared.Event.TheVariants as event
 use Rattle.schedule_text.specs.declared.LineFault.{LineFault}
@@ -93,10 +94,6 @@ IsTextOf event.End line = line ≡ codes "end"
 abbrev pub Says : List ℕ → Event → Type 0
 Says line e = IsInRange e × IsTextOf e line
 
--- decimal digits without a leading zero
-abbrev pub IsDecimal : List ℕ → Type 0
-IsDecimal text = IsNumeral 10 text × (slice_index text 0 ≡ 48 → length text ≡ 1)
-
 -- a decimal number, however long, that isn't from low to high
 abbrev pub IsBeyond : ℕ → ℕ → List ℕ → Type 0
 IsBeyond low high text = IsDecimal text × ¬ ((low ≤ digits_value 10 text) × (digits_value 10 text ≤ high))
@@ -104,7 +101,8 @@ IsBeyond low high text = IsDecimal text × ¬ ((low ≤ digits_value 10 text) ×
 -- a line has an event's shape up to its decimal number, and that number is out of range (own)
 abbrev pub HasBeyond : List ℕ → Type 0
 HasBeyond line = ((text : List ℕ) × (line ≡ codes "g rd " ++ text) × IsBeyond 1 256 text)
-    ⊎ ((a : ℕ) × (text : List ℕ) × (a < 2 ^ 32) × (line ≡ codes "g mr " ++ hex_long a ++ 32 ∷ text) × IsBeyond 1 2000 text)
+    ⊎ ((a : ℕ) × (text : List ℕ) × (a < 2 ^ 32) × (line ≡ codes "g mr " ++ hex_long a ++ 32 ∷ text)
+    × IsBeyond 1 2000 text)
     ⊎ ((text : List ℕ) × (line ≡ codes "d put " ++ text) × IsBeyond 0 63 text)
 
 -- the same of a line that isn't too long

@@ -1,18 +1,14 @@
 //! The parts of a schedule's line: names of registers, hexadecimal and decimal numbers.
 
-ghost use Rattle.std.specs.Prelude.{◌≡◌, ◌≢◌, ◌<◌, ◌≤◌, ◌^◌, ◌++◌, ◌∷◌, [], ◌↔◌, ℕ, List};
-ghost use Rattle.std.specs.Prelude.{length, IsTrue, IfSome, SomeIff, MatchOption};
-ghost use Rattle.std.specs.List.{list_all};
-ghost use Rattle.std.specs.Char.{is_ascii_digit};
-ghost use Rattle.std.specs.Str.Parse.{digits_value};
+ghost use Rattle.std.specs.Prelude.{◌≡◌, ◌≢◌, ◌<◌, ◌^◌, ◌++◌, ◌∷◌, [], ℕ, List, IfSome, MatchOption};
 ghost use Rattle.ata_taskfile.specs.declared.Reg.{Reg as RegOf};
 ghost use Rattle.schedule_text.specs.Line.{register_text, hex_digit, hex_byte, hex_text, hex_long};
-ghost use Rattle.schedule_text.specs.Line.{AreSomeBytes, IsDecimal, ReadsNumber};
+ghost use Rattle.schedule_text.specs.Line.{AreSomeBytes, ReadsNumber};
 
 use crate::LineFault;
 use aoe_frame::Bytes;
 use ata_taskfile::Reg;
-use std::str;
+use decimal_text::{is_decimal, value};
 
 pub(crate) fn after<'a>(line: &'a [u8], front: &[u8]) -> Option<&'a [u8]>
     ensures cut { MatchOption result ((rest : List ℕ) → line.now ≢ front.now ++ rest)
@@ -136,7 +132,6 @@ fn digit(c: u8) -> Option<u8>
 }
 
 // A decimal number that may be from `low` to `high`.
-#[tactic(auto, using(crate::proofs::Numbers::numbers))]
 pub(crate) fn number(digits: &[u8], low: u32, high: u32) -> Result<u32, LineFault>
     ensures number { ReadsNumber low high digits.now result }
 {
@@ -144,34 +139,7 @@ pub(crate) fn number(digits: &[u8], low: u32, high: u32) -> Result<u32, LineFaul
         return Err(LineFault::Form);
     }
     match value(digits) {
-        Some(number) if low <= number && number <= high => Ok(number),
+        Some(number) if u64::from(low) <= number && number <= u64::from(high) => Ok(number as u32),
         _ => Err(LineFault::Number),
-    }
-}
-
-#[tactic(auto, using(crate::proofs::Numbers::digits))]
-fn is_decimal(text: &[u8]) -> bool
-    ensures decimal { IsTrue result ↔ IsDecimal text.now }
-{
-    match text {
-        [b'0'] => true,
-        [b'1'..=b'9', ..] => has_only_digits(text),
-        _ => false,
-    }
-}
-
-fn has_only_digits(text: &[u8]) -> bool
-    ensures digits { result ≡ list_all is_ascii_digit text.now }
-{
-    text.iter().all(|byte| byte.is_ascii_digit())
-}
-
-fn value(digits: &[u8]) -> Option<u32>
-    requires { IsDecimal digits.now }
-    ensures value { SomeIff result (digits_value 10 digits.now < 2 ^ 32) (digits_value 10 digits.now) }
-{
-    match str::from_utf8(digits) {
-        Ok(text) => text.parse().ok(),
-        Err(_) => None,
     }
 }

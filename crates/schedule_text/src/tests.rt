@@ -2,83 +2,112 @@ use super::*;
 use arrayvec::ArrayVec;
 use std::test::Fail;
 
-// By hand from the table of events: one space between words, two lower-case hexadecimal digits to a byte, eight to an
-// address with the most significant first, and a decimal without a leading zero.
+// By hand from the table of events: a line, and what it says. One space stands between words, a byte has two lower-case
+// hexadecimal digits, and an address eight, the most significant first.
+const REGISTERS: [(&[u8], Event); 21] = [
+    (b"g r8 er", Event::Read8(Reg::Error)),
+    (b"g r8 sc", Event::Read8(Reg::Count)),
+    (b"g r8 ll", Event::Read8(Reg::Low)),
+    (b"g r8 lm", Event::Read8(Reg::Mid)),
+    (b"g r8 lh", Event::Read8(Reg::High)),
+    (b"g r8 dv", Event::Read8(Reg::Device)),
+    (b"g r8 st", Event::Read8(Reg::Status)),
+    (b"g r8 al", Event::Read8(Reg::Alternate)),
+    (b"g r8 bc", Event::Read8(Reg::BusCommand)),
+    (b"g r8 bs", Event::Read8(Reg::BusStatus)),
+    (b"g w8 er 00", Event::Write8(Reg::Error, 0)),
+    (b"g w8 sc 01", Event::Write8(Reg::Count, 1)),
+    (b"g w8 ll 0a", Event::Write8(Reg::Low, 10)),
+    (b"g w8 lm a0", Event::Write8(Reg::Mid, 160)),
+    (b"g w8 lh 9f", Event::Write8(Reg::High, 159)),
+    (b"g w8 lh 7f", Event::Write8(Reg::High, 127)),
+    (b"g w8 dv e0", Event::Write8(Reg::Device, 224)),
+    (b"g w8 st 20", Event::Write8(Reg::Status, 32)),
+    (b"g w8 al ff", Event::Write8(Reg::Alternate, 255)),
+    (b"g w8 bc 09", Event::Write8(Reg::BusCommand, 9)),
+    (b"g w8 bs 06", Event::Write8(Reg::BusStatus, 6)),
+];
+
+// The same of the guest's other accesses, but for those that write bytes.
+const ACCESSES: [(&[u8], Event); 17] = [
+    (b"g rd 1", Event::ReadWords(1)),
+    (b"g rd 10", Event::ReadWords(10)),
+    (b"g rd 99", Event::ReadWords(99)),
+    (b"g rd 100", Event::ReadWords(100)),
+    (b"g rd 255", Event::ReadWords(255)),
+    (b"g rd 256", Event::ReadWords(256)),
+    (b"g r32", Event::ReadPointer),
+    (b"g w32 00000000", Event::WritePointer(0)),
+    (b"g w32 00000100", Event::WritePointer(256)),
+    (b"g w32 12345678", Event::WritePointer(0x1234_5678)),
+    (b"g w32 fedcba98", Event::WritePointer(0xfedc_ba98)),
+    (b"g w32 ffffffff", Event::WritePointer(u32::MAX)),
+    (b"g mr 00001000 768", Event::ReadMemory(4096, 768)),
+    (b"g mr 00000000 1", Event::ReadMemory(0, 1)),
+    (b"g mr ffffffff 2000", Event::ReadMemory(u32::MAX, 2000)),
+    (b"g mr 0badcafe 1999", Event::ReadMemory(0x0bad_cafe, 1999)),
+    (b"g line", Event::Line),
+];
+
+// The same of what isn't the guest's.
+const OTHERS: [(&[u8], Event); 13] = [
+    (b"d ok", Event::Drive(Step::Good)),
+    (b"d bad", Event::Drive(Step::Bad)),
+    (b"d put 0", Event::Destage(0)),
+    (b"d put 9", Event::Destage(9)),
+    (b"d put 10", Event::Destage(10)),
+    (b"d put 63", Event::Destage(63)),
+    (b"cut", Event::Cut),
+    (b"", Event::Remark),
+    (b"#", Event::Remark),
+    (b"# note", Event::Remark),
+    (b"#\xff\r", Event::Remark),
+    (b"#g r8 st", Event::Remark),
+    (b"end", Event::End),
+];
+
 #[test]
 fn events_of_lines(rt: HostRuntime) {
-    let cases: [(&[u8], Event); 58] = [
-        (b"g r8 er", Event::Read8(Reg::Error)),
-        (b"g r8 sc", Event::Read8(Reg::Count)),
-        (b"g r8 ll", Event::Read8(Reg::Low)),
-        (b"g r8 lm", Event::Read8(Reg::Mid)),
-        (b"g r8 lh", Event::Read8(Reg::High)),
-        (b"g r8 dv", Event::Read8(Reg::Device)),
-        (b"g r8 st", Event::Read8(Reg::Status)),
-        (b"g r8 al", Event::Read8(Reg::Alternate)),
-        (b"g r8 bc", Event::Read8(Reg::BusCommand)),
-        (b"g r8 bs", Event::Read8(Reg::BusStatus)),
-        (b"g w8 er 00", Event::Write8(Reg::Error, 0)),
-        (b"g w8 sc 01", Event::Write8(Reg::Count, 1)),
-        (b"g w8 ll 0a", Event::Write8(Reg::Low, 10)),
-        (b"g w8 lm a0", Event::Write8(Reg::Mid, 160)),
-        (b"g w8 lh 9f", Event::Write8(Reg::High, 159)),
-        (b"g w8 lh 7f", Event::Write8(Reg::High, 127)),
-        (b"g w8 dv e0", Event::Write8(Reg::Device, 224)),
-        (b"g w8 st 20", Event::Write8(Reg::Status, 32)),
-        (b"g w8 al ff", Event::Write8(Reg::Alternate, 255)),
-        (b"g w8 bc 09", Event::Write8(Reg::BusCommand, 9)),
-        (b"g w8 bs 06", Event::Write8(Reg::BusStatus, 6)),
-        (b"g rd 1", Event::ReadWords(1)),
-        (b"g rd 10", Event::ReadWords(10)),
-        (b"g rd 99", Event::ReadWords(99)),
-        (b"g rd 100", Event::ReadWords(100)),
-        (b"g rd 255", Event::ReadWords(255)),
-        (b"g rd 256", Event::ReadWords(256)),
-        (b"g r32", Event::ReadPointer),
-        (b"g w32 00000000", Event::WritePointer(0)),
-        (b"g w32 00000100", Event::WritePointer(256)),
-        (b"g w32 12345678", Event::WritePointer(0x1234_5678)),
-        (b"g w32 fedcba98", Event::WritePointer(0xfedc_ba98)),
-        (b"g w32 ffffffff", Event::WritePointer(u32::MAX)),
-        (b"g mr 00001000 768", Event::ReadMemory(4096, 768)),
-        (b"g mr 00000000 1", Event::ReadMemory(0, 1)),
-        (b"g mr ffffffff 2000", Event::ReadMemory(u32::MAX, 2000)),
-        (b"g mr 0badcafe 1999", Event::ReadMemory(0x0bad_cafe, 1999)),
-        (b"g line", Event::Line),
-        (b"d ok", Event::Drive(Step::Good)),
-        (b"d bad", Event::Drive(Step::Bad)),
-        (b"d put 0", Event::Destage(0)),
-        (b"d put 9", Event::Destage(9)),
-        (b"d put 10", Event::Destage(10)),
-        (b"d put 63", Event::Destage(63)),
-        (b"cut", Event::Cut),
-        (b"", Event::Remark),
-        (b"#", Event::Remark),
-        (b"# note", Event::Remark),
-        (b"#\xff\r", Event::Remark),
-        (b"#g r8 st", Event::Remark),
-        (b"g wd 0100", Event::WriteWords(list(&[1, 0]))),
-        (
-            b"g wd 34127856",
-            Event::WriteWords(list(&[0x34, 0x12, 0x78, 0x56])),
-        ),
-        (b"g wd ffff", Event::WriteWords(list(&[255, 255]))),
-        (b"g mw 00000100 0a", Event::WriteMemory(256, list(&[10]))),
-        (
-            b"g mw ffffffff 0af0",
-            Event::WriteMemory(u32::MAX, list(&[10, 240])),
-        ),
+    for (line, event) in REGISTERS {
+        assert_eq!(rt; read_line(line), Ok(event), "at {line:?}");
+    }
+    for (line, event) in ACCESSES {
+        assert_eq!(rt; read_line(line), Ok(event), "at {line:?}");
+    }
+    for (line, event) in OTHERS {
+        assert_eq!(rt; read_line(line), Ok(event), "at {line:?}");
+    }
+}
+
+#[test]
+fn written_words(rt: HostRuntime) {
+    // A line, and the bytes that it writes to Data.
+    let cases: [(&[u8], &[u8]); 3] = [
+        (b"g wd 0100", &[1, 0]),
+        (b"g wd 34127856", &[0x34, 0x12, 0x78, 0x56]),
+        (b"g wd ffff", &[255, 255]),
+    ];
+    for (line, bytes) in cases {
+        let event = Event::WriteWords(list(bytes));
+        assert_eq!(rt; read_line(line), Ok(event), "at {line:?}");
+    }
+}
+
+#[test]
+fn written_memory(rt: HostRuntime) {
+    // A line; the address and the bytes that it writes there.
+    let cases: [(&[u8], u32, &[u8]); 4] = [
+        (b"g mw 00000100 0a", 256, &[10]),
+        (b"g mw ffffffff 0af0", u32::MAX, &[10, 240]),
         (
             b"g mw 00000100 0010000000020080",
-            Event::WriteMemory(256, list(&[0, 16, 0, 0, 0, 2, 0, 128])),
+            256,
+            &[0, 16, 0, 0, 0, 2, 0, 128],
         ),
-        (
-            b"g mw 00000000 000000",
-            Event::WriteMemory(0, list(&[0, 0, 0])),
-        ),
-        (b"end", Event::End),
+        (b"g mw 00000000 000000", 0, &[0, 0, 0]),
     ];
-    for (line, event) in cases {
+    for (line, address, bytes) in cases {
+        let event = Event::WriteMemory(address, list(bytes));
         assert_eq!(rt; read_line(line), Ok(event), "at {line:?}");
     }
 }
@@ -91,127 +120,149 @@ fn list<const N: usize>(bytes: &[u8]) -> Bytes<N> {
     all
 }
 
-// Lines that have no event's shape: by hand from the same table.
+// Lines that have no event's shape, by hand from the same table: of registers.
+const FORMLESS_REGISTERS: [&[u8]; 22] = [
+    b"g r8 xx",
+    b"g r8 ST",
+    b"g r8 s",
+    b"g r8 ",
+    b"g r8",
+    b"g r8 st ",
+    b"g r8  st",
+    b" g r8 st",
+    b"g w8 st FF",
+    b"g w8 st 2",
+    b"g w8 st 020",
+    b"g w8 st 2g",
+    b"g w8 st",
+    b"g w8 st  20",
+    b"g w8 st 20 ",
+    b"g w8 st20",
+    b"g w8 er 0A",
+    b"g w8 er 0x",
+    b"g r8 s\xff",
+    b"g r8 er\r",
+    b"G r8 er",
+    b"g\tr8 er",
+];
+
+// The same of words.
+const FORMLESS_WORDS: [&[u8]; 23] = [
+    b"g rd 00",
+    b"g rd 01",
+    b"g rd +5",
+    b"g rd -5",
+    b"g rd 5 ",
+    b"g rd  5",
+    b"g rd 5a",
+    b"g rd ",
+    b"g rd 1.0",
+    b"g rd 0x10",
+    b"g rd",
+    b"g wd",
+    b"g wd ",
+    b"g wd 0",
+    b"g wd 01",
+    b"g wd 012",
+    b"g wd 010203",
+    b"g wd 01020",
+    b"g wd 0A00",
+    b"g wd 00g0",
+    b"g wd 0100 ",
+    b"g wd  0100",
+    b"g wd 01 00",
+];
+
+// The same of the pointer, the guest's memory and the interrupt line.
+const FORMLESS_MEMORY: [&[u8]; 37] = [
+    b"g r32 ",
+    b"g r32 0",
+    b"g r3",
+    b"g w32",
+    b"g w32 ",
+    b"g w32 0000010",
+    b"g w32 000000100",
+    b"g w32 0000010A",
+    b"g w32 00000x00",
+    b"g w32 00000100 ",
+    b"g w32  00000100",
+    b"g mr",
+    b"g mr ",
+    b"g mr 00001000",
+    b"g mr 00001000 ",
+    b"g mr 0001000 5",
+    b"g mr 000001000 5",
+    b"g mr 00001000 05",
+    b"g mr 00001000  5",
+    b"g mr 00001000 5 ",
+    b"g mr 0000100A 5",
+    b"g mr 0000100A 2001",
+    b"g mr 00001000 -1",
+    b"g mr 00001000 ff",
+    b"g mw",
+    b"g mw 00000100",
+    b"g mw 00000100 ",
+    b"g mw 00000100 0",
+    b"g mw 00000100 012",
+    b"g mw 0000100 01",
+    b"g mw 00000100 0A",
+    b"g mw 00000100  01",
+    b"g mw 00000100 01 ",
+    b"g mw 0000010001",
+    b"g line ",
+    b"g lin",
+    b"g line st",
+];
+
+// The same of what isn't the guest's.
+const FORMLESS_OTHERS: [&[u8]; 26] = [
+    b"d ok ",
+    b"d bad ",
+    b"d ba",
+    b"d put",
+    b"d put ",
+    b"d put 00",
+    b"d put 063",
+    b"d put -1",
+    b"d put 1 ",
+    b"cut ",
+    b"cu",
+    b"end ",
+    b"end 1",
+    b"END",
+    b"g",
+    b"d",
+    b"t",
+    b"k",
+    b"n s 0",
+    b"n c 0 keep",
+    b"n ls 1",
+    b"n lc 1",
+    b"n x 00",
+    b"n y 00",
+    b"D ok",
+    b" # note",
+];
+
 #[test]
 fn lines_of_no_form(rt: HostRuntime) {
-    let lines: [&[u8]; 108] = [
-        b"g r8 xx",
-        b"g r8 ST",
-        b"g r8 s",
-        b"g r8 ",
-        b"g r8",
-        b"g r8 st ",
-        b"g r8  st",
-        b" g r8 st",
-        b"g w8 st FF",
-        b"g w8 st 2",
-        b"g w8 st 020",
-        b"g w8 st 2g",
-        b"g w8 st",
-        b"g w8 st  20",
-        b"g w8 st 20 ",
-        b"g w8 st20",
-        b"g w8 er 0A",
-        b"g w8 er 0x",
-        b"g rd 00",
-        b"g rd 01",
-        b"g rd +5",
-        b"g rd -5",
-        b"g rd 5 ",
-        b"g rd  5",
-        b"g rd 5a",
-        b"g rd ",
-        b"g rd 1.0",
-        b"g rd 0x10",
-        b"g rd",
-        b"g wd",
-        b"g wd ",
-        b"g wd 0",
-        b"g wd 01",
-        b"g wd 012",
-        b"g wd 010203",
-        b"g wd 01020",
-        b"g wd 0A00",
-        b"g wd 00g0",
-        b"g wd 0100 ",
-        b"g wd  0100",
-        b"g wd 01 00",
-        b"g r32 ",
-        b"g r32 0",
-        b"g r3",
-        b"g w32",
-        b"g w32 ",
-        b"g w32 0000010",
-        b"g w32 000000100",
-        b"g w32 0000010A",
-        b"g w32 00000x00",
-        b"g w32 00000100 ",
-        b"g w32  00000100",
-        b"g mr",
-        b"g mr ",
-        b"g mr 00001000",
-        b"g mr 00001000 ",
-        b"g mr 0001000 5",
-        b"g mr 000001000 5",
-        b"g mr 00001000 05",
-        b"g mr 00001000  5",
-        b"g mr 00001000 5 ",
-        b"g mr 0000100A 5",
-        b"g mr 0000100A 2001",
-        b"g mr 00001000 -1",
-        b"g mr 00001000 ff",
-        b"g mw",
-        b"g mw 00000100",
-        b"g mw 00000100 ",
-        b"g mw 00000100 0",
-        b"g mw 00000100 012",
-        b"g mw 0000100 01",
-        b"g mw 00000100 0A",
-        b"g mw 00000100  01",
-        b"g mw 00000100 01 ",
-        b"g mw 0000010001",
-        b"g line ",
-        b"g lin",
-        b"g line st",
-        b"d ok ",
-        b"d bad ",
-        b"d ba",
-        b"d put",
-        b"d put ",
-        b"d put 00",
-        b"d put 063",
-        b"d put -1",
-        b"d put 1 ",
-        b"cut ",
-        b"cu",
-        b"end ",
-        b"end 1",
-        b"END",
-        b"g r8 s\xff",
-        b"g r8 er\r",
-        b"G r8 er",
-        b"g\tr8 er",
-        b"g",
-        b"d",
-        b"t",
-        b"k",
-        b"n s 0",
-        b"n c 0 keep",
-        b"n ls 1",
-        b"n lc 1",
-        b"n x 00",
-        b"n y 00",
-        b"D ok",
-        b" # note",
-    ];
-    for line in lines {
+    for line in FORMLESS_REGISTERS {
+        assert_eq!(rt; read_line(line), Err(LineFault::Form), "at {line:?}");
+    }
+    for line in FORMLESS_WORDS {
+        assert_eq!(rt; read_line(line), Err(LineFault::Form), "at {line:?}");
+    }
+    for line in FORMLESS_MEMORY {
+        assert_eq!(rt; read_line(line), Err(LineFault::Form), "at {line:?}");
+    }
+    for line in FORMLESS_OTHERS {
         assert_eq!(rt; read_line(line), Err(LineFault::Form), "at {line:?}");
     }
 }
 
-// Decimal numbers out of their range, which is 1 to 256, 1 to 2,000, and 0 to 63.
 #[test]
 fn numbers_out_of_range(rt: HostRuntime) {
+    // The range is 1 to 256, 1 to 2,000, and 0 to 63.
     let lines: [&[u8]; 15] = [
         b"g rd 0",
         b"g rd 257",
@@ -234,9 +285,9 @@ fn numbers_out_of_range(rt: HostRuntime) {
     }
 }
 
-// 256 words and 2,000 bytes of memory are the most that a line can write.
 #[test]
 fn longest_writes(rt: HostRuntime) {
+    // 256 words and 2,000 bytes of memory are the most that a line can write.
     let mut line = [b'a'; 4016];
     line[..5].copy_from_slice(b"g wd ");
     let words = Event::WriteWords(list(&[0xaa; 512]));
@@ -248,9 +299,9 @@ fn longest_writes(rt: HostRuntime) {
     assert_eq!(rt; read_line(&line), Err(LineFault::Form));
 }
 
-// A line of 4,096 bytes is the longest; no longer one has a shape or a number, not even a remark.
 #[test]
 fn long_lines(rt: HostRuntime) {
+    // The start of a line whose other bytes are 0; its fault where it has 4,096 bytes, the most that a line may have.
     for (start, fault) in [
         (b"# note", None),
         (b"g rd 1", Some(LineFault::Number)),
@@ -264,51 +315,51 @@ fn long_lines(rt: HostRuntime) {
     }
 }
 
-// By hand from the table of a report's lines.
+// By hand from the table of a report's lines: the number of the event's line, the item, its event's answer, and the line.
+const REPORTED: [(u32, Item, &[u8], &[u8]); 8] = [
+    (8, Item::Answer, &[0x80], b"8 o 80\n"),
+    (13, Item::Answer, &[0x0e, 0xe0, 0xff], b"13 o 0ee0ff\n"),
+    (7, Item::Command(0x20, 3, 1), &[], b"7 c 20 3 1\n"),
+    (100, Item::Command(0xe7, 0, 0), &[1], b"100 c e7 0 0\n"),
+    (1, Item::Go(1), &[], b"1 p go 1\n"),
+    (45, Item::Bad, &[], b"45 p bad\n"),
+    (
+        u32::MAX - 1,
+        Item::Go(u32::MAX),
+        &[],
+        b"4294967294 p go 4294967295\n",
+    ),
+    (
+        u32::MAX - 1,
+        Item::Command(255, u64::MAX, u32::MAX),
+        &[],
+        b"4294967294 c ff 18446744073709551615 4294967295\n",
+    ),
+];
+
 #[test]
 fn lines_of_a_report(rt: HostRuntime) {
-    let cases: [(u32, Item, &[u8], &[u8]); 8] = [
-        (8, Item::Answer, &[0x80], b"8 o 80\n"),
-        (
-            13,
-            Item::Answer,
-            &[0x0e, 0xe0, 0x09, 0xff],
-            b"13 o 0ee009ff\n",
-        ),
-        (7, Item::Command(0x20, 3, 1), &[], b"7 c 20 3 1\n"),
-        (100, Item::Command(0xe7, 0, 0), &[1], b"100 c e7 0 0\n"),
-        (1, Item::Go(1), &[], b"1 p go 1\n"),
-        (45, Item::Bad, &[], b"45 p bad\n"),
-        (
-            4294967294,
-            Item::Go(u32::MAX),
-            &[],
-            b"4294967294 p go 4294967295\n",
-        ),
-        (
-            4294967294,
-            Item::Command(255, u64::MAX, u32::MAX),
-            &[],
-            b"4294967294 c ff 18446744073709551615 4294967295\n",
-        ),
-    ];
     let mut into = ArrayVec::new();
-    for (number, item, bytes, line) in cases {
+    for (number, item, bytes, line) in REPORTED {
         write_item(number, &item, bytes, &mut into);
-        assert_eq!(rt; into.as_slice(), line);
-    }
-    for (number, line) in [
-        (16, b"end 16\n".as_slice()),
-        (4294967294, b"end 4294967294\n"),
-    ] {
-        write_end(number, &mut into);
-        assert_eq!(rt; into.as_slice(), line);
+        assert_eq!(rt; into.as_slice(), line, "at {number} {item:?}");
     }
 }
 
-// 2,000 bytes are the longest answer of an event.
+#[test]
+fn last_lines_of_a_report(rt: HostRuntime) {
+    // The number of the line `end`, and the report's last line.
+    let cases: [(u32, &[u8]); 2] = [(16, b"end 16\n"), (u32::MAX - 1, b"end 4294967294\n")];
+    let mut into = ArrayVec::new();
+    for (number, line) in cases {
+        write_end(number, &mut into);
+        assert_eq!(rt; into.as_slice(), line, "at {number}");
+    }
+}
+
 #[test]
 fn longest_answer(rt: HostRuntime) {
+    // 2,000 bytes are the longest answer of an event.
     let mut into = ArrayVec::new();
     write_item(4294967294, &Item::Answer, &[0xa5; 2000], &mut into);
     assert_eq!(rt; into.len(), 4014);
