@@ -2,8 +2,8 @@
 use Rattle.std.proofs.Common.{◌≡◌, ℕ, zero, suc, ◌==◌, ◌||◌, ◌+◌, ◌-◌, ◌*◌, ◌/◌, ◌<◌, ◌≤◌, Bool, true, false, ◌&&◌, nat_lt, List, [], ◌++◌, length, map, take, drop, get_or, arith, refl, sym, ap, inl, inr, ◌∙◌}
 use Rattle.std.specs.Int.{div_ceil}
 use Rattle.std.specs.List.{range_with_len}
-use Rattle.std.proofs.lemmas.Bool.{cases_lt}
-use Rattle.std.proofs.lemmas.Bool.Decides.{nat_tests}
+use Rattle.std.proofs.Math.Bool.{or-false}
+use Rattle.std.proofs.lemmas.Bool.{cases_lt, lt-ltb, le-ltb, eq-eqb, ne_eqb, false_from_ne_true}
 use Rattle.std.proofs.lemmas.List.{get_or_append_left, get_or-append_right, get_or-drop, get_or-take, get_or-replicate, get_or_past, length-append, length-drop, length-take, length-replicate}
 use Rattle.std.proofs.lemmas.List.FromFn.{fill_by_all}
 use Rattle.std.proofs.lemmas.Slice.Eq.{bytes_eq-Decides}
@@ -29,38 +29,25 @@ written_bit area id set disk holds b inside =
     let sector = holds.bitmap (b / 4096) (omega arith) in
     sym (ap (λ bytes. has_bit bytes b) sector ∙ bit_written (b / 4096) b set refl)
 
+-- a disk with the header passes the test for it
+pub has_header-true : (area : Area) (id : ℕ) (disk : List (List ℕ)) → HasHeader area id disk → has_header area id disk ≡ true
+has_header-true area id disk header = (bytes_eq-Decides (sector_at (reserved_of area) disk) (header_of area id)).1 header
+
 -- where a set was written, it is stored
 pub stored_set : (area : Area) (id : ℕ) (set : List Bool) (disk : List (List ℕ)) → HoldsSet area id set disk → stored_blocks area id disk ≡ set
 stored_set area id set disk holds =
-    let same : has_header area id disk ≡ true = (bytes_eq-Decides (sector_at (reserved_of area) disk) (header_of area id)).1 holds.header in
-    rw same (sym (fill_by_all (says_stored area disk) set (blocks_of area) false holds.blocks (written_bit area id set disk holds)))
-
-lt_true : (a b : ℕ) → a < b → nat_lt a b ≡ true
-lt_true a b h = grind (arith, nat_tests)
-
-lt_false : (a b : ℕ) → b ≤ a → nat_lt a b ≡ false
-lt_false a b h = grind (arith, nat_tests)
-
-eq_true : (a b : ℕ) → a ≡ b → (a == b) ≡ true
-eq_true a b h = grind (arith, nat_tests)
-
-eq_false : (a b : ℕ) → (a ≡ b → ⊥) → (a == b) ≡ false
-eq_false a b h = grind (arith, nat_tests)
-
-or_false : (x : Bool) → (x || false) ≡ x
-or_false true = refl
-or_false false = refl
+    rw (has_header-true area id disk holds.header) (sym (fill_by_all (says_stored area disk) set (blocks_of area) false holds.blocks (written_bit area id set disk holds)))
 
 -- the blocks of one sector more, in which a block has the bit y
 one_more : (k b : ℕ) (x y : Bool) → (b / 4096 ≡ k → y ≡ x)
     → ((nat_lt b (k * 4096) && x) || ((b / 4096 == k) && y)) ≡ (nat_lt b (suc k * 4096) && x)
 one_more k b x y same = elim (cases_lt b (k * 4096)) [
-  | inl low ↦ rw (lt_true b (k * 4096) low, eq_false (b / 4096) k (λ e. omega arith), lt_true b (suc k * 4096) (omega arith)) (or_false x)
+  | inl low ↦ rw (lt-ltb b (k * 4096) low, ne_eqb (b / 4096) k (λ e. omega arith), lt-ltb b (suc k * 4096) (omega arith)) (or-false x)
   | inr high ↦ elim (cases_lt b (suc k * 4096)) [
     | inl here ↦
         let is : b / 4096 ≡ k = omega arith in
-        rw (lt_false b (k * 4096) high, eq_true (b / 4096) k is, lt_true b (suc k * 4096) here) (same is)
-    | inr past ↦ rw (lt_false b (k * 4096) high, eq_false (b / 4096) k (λ e. omega arith), lt_false b (suc k * 4096) past) refl
+        rw (le-ltb b (k * 4096) high, eq-eqb (b / 4096) k is, lt-ltb b (suc k * 4096) here) (same is)
+    | inr past ↦ rw (le-ltb b (k * 4096) high, ne_eqb (b / 4096) k (λ e. omega arith), le-ltb b (suc k * 4096) past) refl
   ]
 ]
 
@@ -72,7 +59,7 @@ length-with_sectors (suc k) area disk set =
 -- what the first so many sectors give
 has-with_sectors : (k : ℕ) (area : Area) (disk : List (List ℕ)) (n b : ℕ) → b < n
     → has (with_sectors k area disk (empty_set n)) b ≡ (nat_lt b (k * 4096) && says_stored area disk b)
-has-with_sectors zero area disk n b inside = has-empty_set n b ∙ sym (ap (λ test. test && says_stored area disk b) (lt_false b 0 (omega arith)))
+has-with_sectors zero area disk n b inside = has-empty_set n b ∙ sym (ap (λ test. test && says_stored area disk b) (le-ltb b 0 (omega arith)))
 has-with_sectors (suc k) area disk n b inside =
     let before = has-with_sectors k area disk n b inside in
     has-with_sector k (bitmap_sector area disk k) (with_sectors k area disk (empty_set n)) b
@@ -82,27 +69,22 @@ has-with_sectors (suc k) area disk n b inside =
 
 -- the sectors of the bitmap are enough for each block
 all_sectors : (n b : ℕ) → b < n → nat_lt b (div_ceil n 4096 * 4096) ≡ true
-all_sectors n b inside = lt_true b (div_ceil n 4096 * 4096) (omega arith)
+all_sectors n b inside = lt-ltb b (div_ceil n 4096 * 4096) (omega arith)
 
 -- all of them give the stored blocks
 pub added_all : (area : Area) (id : ℕ) (disk : List (List ℕ)) → HasHeader area id disk
     → with_sectors (bitmap_sectors_of area) area disk (empty_set (blocks_of area)) ≡ stored_blocks area id disk
 added_all area id disk header =
-    let same : has_header area id disk ≡ true = (bytes_eq-Decides (sector_at (reserved_of area) disk) (header_of area id)).1 header in
-    rw same (fill_by_all (says_stored area disk) (with_sectors (bitmap_sectors_of area) area disk (empty_set (blocks_of area))) (blocks_of area) false
+    rw (has_header-true area id disk header) (fill_by_all (says_stored area disk) (with_sectors (bitmap_sectors_of area) area disk (empty_set (blocks_of area))) (blocks_of area) false
     (length-with_sectors (bitmap_sectors_of area) area disk (empty_set (blocks_of area)) ∙ length-replicate (blocks_of area) false)
     (λ b inside. has-with_sectors (bitmap_sectors_of area) area disk (blocks_of area) b inside
     ∙ ap (λ test. test && says_stored area disk b) (all_sectors (blocks_of area) b inside)))
 
-untrue : (x : Bool) → (x ≡ true → ⊥) → x ≡ false
-untrue true h = absurd (h refl)
-untrue false h = refl
-
 -- without the header no block is stored
 pub none_stored : (area : Area) (id : ℕ) (disk : List (List ℕ)) → (HasHeader area id disk → ⊥) → stored_blocks area id disk ≡ empty_set (blocks_of area)
 none_stored area id disk none =
-    let test : has_header area id disk ≡ false =
-    untrue (has_header area id disk) (λ h. none ((bytes_eq-Decides (sector_at (reserved_of area) disk) (header_of area id)).0 h)) in
+    let test : has_header area id disk ≡ false
+    = false_from_ne_true (has_header area id disk) (λ h. none ((bytes_eq-Decides (sector_at (reserved_of area) disk) (header_of area id)).0 h)) in
     rw test refl
 
 -- the reserved sectors stand behind the image and end with the disk
@@ -111,11 +93,11 @@ bounds area suitable = grind arith
 
 -- where no block is on the disk, a sector of the image is the image's
 seen_empty : (area : Area) (n : ℕ) (image disk : List (List ℕ)) (s : ℕ) → s < area.image → sector_seen area (empty_set n) image disk s ≡ get_or image s []
-seen_empty area n image disk s inside = rw (has-empty_set n (s / area.block)) (rw (lt_true s area.image inside) refl)
+seen_empty area n image disk s inside = rw (has-empty_set n (s / area.block)) (rw (lt-ltb s area.image inside) refl)
 
 -- a sector behind the image is the disk's
 seen_behind : (area : Area) (set : List Bool) (image disk : List (List ℕ)) (s : ℕ) → area.image ≤ s → sector_seen area set image disk s ≡ get_or disk s []
-seen_behind area set image disk s past = rw (lt_false s area.image past) refl
+seen_behind area set image disk s past = rw (le-ltb s area.image past) refl
 
 joined : (a r n s : ℕ) (image disk : List (List ℕ)) (area : Area) → area.image ≡ a → length image ≡ a → s < r
     → get_or (image ++ drop a (take r disk)) s [] ≡ sector_seen area (empty_set n) image disk s

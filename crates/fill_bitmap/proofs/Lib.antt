@@ -3,3 +3,4 @@ pub mod Bytes
 pub mod Outside
 pub mod Nested
 pub mod Disks
+pub mod StoredBlocks

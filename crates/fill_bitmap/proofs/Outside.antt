@@ -1,7 +1,8 @@
 -- The first block that a set lacks.
-use Rattle.std.proofs.Common.{◌≡◌, ◌↔◌, ℕ, ◌+◌, ◌<◌, ◌≤◌, Bool, true, false, not, if◌then◌else◌, nat_lt, position, Option, Some, None, IsNone, IfSome, List, length, get_or, drop, arith, refl}
+use Rattle.std.proofs.Common.{◌≡◌, ◌↔◌, ℕ, ◌+◌, ◌<◌, ◌≤◌, Bool, false, not, if◌then◌else◌, nat_lt, position, Option, Some, None, IsNone, IfSome, List, length, get_or, drop, arith, refl}
 use Rattle.std.specs.Option.{option_map, option_or}
 use Rattle.std.specs.List.{position_or_len}
+use Rattle.std.proofs.lemmas.Bool.{not-true, not-false}
 use Rattle.std.proofs.lemmas.Bool.Decides.{nat_tests}
 use Rattle.std.proofs.lemmas.List.{get_or-drop, length-drop}
 use Rattle.std.proofs.lemmas.List.Quantifiers.{position-Some}
@@ -12,19 +13,11 @@ use Rattle.fill_bitmap.specs.BlockSet.{IsWhole, has, first_outside, next_outside
 abbrev IsOutside : List Bool → ℕ → Type 0
 IsOutside set f = (f < length set) × (has set f ≡ false)
 
-negated : (x : Bool) → not x ≡ true → x ≡ false
-negated true h = cc
-negated false h = refl
-
-held : (x : Bool) → not x ≡ false → x ≡ true
-held true h = refl
-held false h = cc
-
 found_at : (b : ℕ) (set : List Bool) (o : Option ℕ) → position not (drop b set) ≡ o → IfSome (option_map (λ i. b + i) o) (IsOutside set)
 found_at b set None e = tt
 found_at b set (Some i) e =
     let (inside, passes, before) = position-Some not (drop b set) i false e in
-    let lacks : get_or (drop b set) i false ≡ false = negated (get_or (drop b set) i false) passes in
+    let lacks : get_or (drop b set) i false ≡ false = not-true (get_or (drop b set) i false) passes in
     (omega (arith, length-drop b set), rw get_or-drop at lacks)
 
 no_place : (n m : ℕ) → (if nat_lt n m then Some n else None) ≡ None → m ≤ n
@@ -34,7 +27,7 @@ no_place n m e = grind (arith, nat_tests)
 none_found : (set : List Bool) → position not set ≡ None → IsWhole set
 none_found set e b inside =
     let most = no_place (position_or_len not set) (length set) e in
-    held (get_or set b false) (fails_before_first not set b false (omega arith))
+    not-false (get_or set b false) (fails_before_first not set b false (omega arith))
 
 either : (set : List Bool) (o p : Option ℕ) → IfSome o (IsOutside set) → IfSome p (IsOutside set) → IfSome (option_or o p) (IsOutside set)
 either set None p first second = second

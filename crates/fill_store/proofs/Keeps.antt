@@ -4,6 +4,7 @@ use Rattle.std.proofs.Math.Path.{subst}
 use Rattle.std.proofs.lemmas.Bool.{cases_lt}
 use Rattle.ata_taskfile.specs.Device.{Cell}
 use Rattle.plain_drive.specs.Plain.{appended, all_flushed}
+use Rattle.plain_drive.proofs.Cells.{appended-current}
 use Rattle.fill_bitmap.specs.declared.area.Area.{Area}
 use Rattle.fill_bitmap.specs.Area.{blocks_of, bitmap_sectors_of, reserved_of}
 use Rattle.fill_bitmap.specs.Bits.{sector_of}
@@ -12,7 +13,7 @@ use Rattle.fill_bitmap.specs.Disk.{header_of}
 use Rattle.fill_bitmap.proofs.Bytes.{bit_written}
 use Rattle.fill_store.specs.Sectors.{sector_of_bits}
 use Rattle.fill_store.specs.Cells.{value_at, HasBits, ForgetsOld, HasBitsBetween, KeepsBits}
-use Rattle.fill_store.proofs.Values.{each_map, each_written, other_written, newest_written, length-appended, each_flushed, flush_forgets, each_forgets}
+use Rattle.fill_store.proofs.Values.{each_map, each_written, other_written, length-appended, each_flushed, flush_forgets, each_forgets}
 
 -- the newest values stay where older ones were forgotten
 pub bits_forget : (n : ℕ) (bytes : ℕ → List ℕ) (area : Area) (old new : List Cell) → ForgetsOld old new
@@ -39,7 +40,7 @@ one_more k bytes area cells there bits j below = elim (cases_lt j k) [
   | inr past ↦
       let same : j ≡ k = omega arith in
       ap (λ i. value_at (sector_of_bits area i) (appended (sector_of_bits area k) (bytes k) cells)) same
-      ∙ newest_written (sector_of_bits area k) (bytes k) cells there ∙ ap bytes (sym same)
+      ∙ appended-current (sector_of_bits area k) (bytes k) cells there ∙ ap bytes (sym same)
 ]
 
 -- where older values were forgotten, what a cut may leave stays between its sets

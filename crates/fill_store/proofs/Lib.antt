@@ -3,4 +3,5 @@ pub mod Values
 pub mod Stored
 pub mod Keeps
 pub mod Opens
+pub mod OpeningCuts
 pub mod Settles

@@ -1,32 +1,31 @@
 -- What stands on the drive while an opening goes on.
-use Rattle.std.proofs.Common.{◌≡◌, ℕ, suc, ◌==◌, ◌+◌, ◌<◌, Bool, true, false, if◌then◌else◌, nat_lt, ◌&&◌, not, ◌/◌, Option, Some, None, unwrap_or, List, [], length, map, take, arith, refl, ap, sym, add-one, ◌∙◌, inl, inr}
+use Rattle.std.proofs.Common.{◌≡◌, ℕ, suc, ◌==◌, ◌+◌, ◌<◌, Bool, true, false, if◌then◌else◌, Option, Some, None, unwrap_or, List, length, take, arith, refl, ap, sym, add-one, ◌∙◌, inl, inr}
 use Rattle.std.proofs.Math.Path.{subst}
-use Rattle.std.specs.List.{range_with_len}
 use Rattle.std.specs.Str.{bytes_eq}
 use Rattle.std.proofs.lemmas.Bool.Decides.{eqb_tells}
 use Rattle.std.proofs.lemmas.List.{length-map, length-replicate}
-use Rattle.std.proofs.lemmas.List.FromFn.{fill_by_all, length-map-range_with_len, get_or-map-range_with_len}
 use Rattle.std.proofs.lemmas.Slice.Eq.{bytes_eq-Decides}
 use Rattle.ata_taskfile.specs.Device.{Cell}
-use Rattle.plain_drive.specs.Plain.{settled, current, appended, all_flushed, stored}
-use Rattle.plain_drive.specs.Cut.{IsOutcome}
+use Rattle.plain_drive.specs.Plain.{settled, appended, all_flushed, stored}
+use Rattle.plain_drive.proofs.Cells.{appended-current}
 use Rattle.own_pio.specs.declared.job.OwnJob.{OwnJob}
 use Rattle.own_pio.specs.declared.job.OwnJob.TheVariants.{Write}
 use Rattle.fill_bitmap.specs.declared.area.Area.{Area}
 use Rattle.fill_bitmap.specs.Area.{IsSuitable, blocks_of, bitmap_sectors_of, reserved_of}
 use Rattle.fill_bitmap.specs.Bits.{has_bit}
 use Rattle.fill_bitmap.specs.Bitmap.{Sets, empty_sets, loaded}
-use Rattle.fill_bitmap.specs.BlockSet.{has, empty_set, with_sector}
-use Rattle.fill_bitmap.specs.Disk.{sector_at, header_of, HasHeader, bitmap_sector, stored_blocks, with_sectors, sector_seen, guest_view}
+use Rattle.fill_bitmap.specs.BlockSet.{empty_set, with_sector}
+use Rattle.fill_bitmap.specs.Disk.{sector_at, header_of, HasHeader, bitmap_sector, stored_blocks, with_sectors}
 use Rattle.fill_bitmap.proofs.Disks.{added_all, none_stored, has-empty_set}
+use Rattle.fill_bitmap.proofs.StoredBlocks.{length-stored_blocks, stored_inside, stored_block}
 use Rattle.fill_store.specs.declared.opening.OpeningStep.{OpeningStep}
 use Rattle.fill_store.specs.declared.opening.OpeningStep.TheVariants.{ReadHeader, ReadBits, WriteZeros, FlushZeros, WriteHeader, FlushHeader, Ended}
 use Rattle.fill_store.specs.Sectors.{sector_of_bits, zero_bits}
 use Rattle.fill_store.specs.Cells.{Each, MadeBy, ForgetsOld, HasBitsBetween, KeepsBits}
 use Rattle.fill_store.specs.Opening.{OpeningState, opening_of, IsReached, job_at, bytes_at, next_in_opening, bytes_to_open, read_from, zeros_from, step_after, sets_behind, opening_after, sets_after_opening}
 use Rattle.fill_store.specs.OpeningCells.{IsEither, alike, LeavesOldOrNew, HasOldBits, HasOldHeader, HasZeros, HasOnlyZeros, CellsAt, blocks_at, MadeByOpening, Opens}
-use Rattle.fill_store.proofs.Values.{newest, each_map, each_written, newest_written, length-appended, each_flushed, flush_forgets, each_forgets, left_by_cut, at_power_on, on_test}
-use Rattle.fill_store.proofs.Stored.{length-stored_blocks, stored_inside, stored_block, zeros_stored, same_stored, no_bit, cut_stores_set}
+use Rattle.fill_store.proofs.Values.{newest, each_map, each_written, length-appended, each_flushed, flush_forgets, each_forgets, at_power_on, on_test}
+use Rattle.fill_store.proofs.Stored.{no_bit}
 use Rattle.fill_store.proofs.Keeps.{bits_forget, bits_stand, one_more, keeps_forgets}
 
 leaves_forgets : (area : Area) (id : ℕ) (disk : List (List ℕ)) (old new : List Cell) → ForgetsOld old new
@@ -211,7 +210,7 @@ step_done area id disk WriteHeader bytes sets old new reached empty leaves (none
     rw made (
       empty,
       leaves_header area id disk old leaves,
-      (none, only_zeros_stay area id old zeros, newest_written (reserved_of area) (header_of area id) old (omega arith)),
+      (none, only_zeros_stay area id old zeros, appended-current (reserved_of area) (header_of area id) old (omega arith)),
     )
 step_done area id disk FlushHeader bytes sets old new reached empty leaves (none, zeros, header) made =
     let left = leaves_forgets area id disk old (all_flushed old) (flush_forgets old) leaves in
@@ -275,82 +274,6 @@ opens_after true disk o bytes sets old new reached opens made =
     let left = step_done o.area o.id disk o.step bytes sets old new reached opens.bitmap opens.sectors opens.step made in
     record { bitmap = left.0; sectors = left.1; step = left.2 }
 
--- the header that a cut leaves, where the disk's was the run's
-header_left : (area : Area) (id : ℕ) (disk : List (List ℕ)) (cells : List Cell) (outcome : List (List ℕ)) → LeavesOldOrNew area id disk cells
-    → HasHeader area id disk → IsOutcome cells outcome → sector_at (reserved_of area) outcome ≡ sector_at (reserved_of area) disk
-header_left area id disk cells outcome leaves header left =
-    let reserved = leaves.reserved in
-    elim (left_by_cut (IsEither (sector_at (reserved_of area) disk) (header_of area id)) (reserved_of area) cells outcome (omega arith) leaves.header left) [
-      | inl same ↦ same
-      | inr new ↦ new ∙ sym header
-    ]
-
--- the header that a cut leaves, where it wasn't written
-old_header_left : (area : Area) (id : ℕ) (disk : List (List ℕ)) (cells : List Cell) (outcome : List (List ℕ)) → LeavesOldOrNew area id disk cells
-    → HasOldHeader area disk cells → IsOutcome cells outcome → sector_at (reserved_of area) outcome ≡ sector_at (reserved_of area) disk
-old_header_left area id disk cells outcome leaves header left =
-    let reserved = leaves.reserved in
-    left_by_cut (λ value. value ≡ sector_at (reserved_of area) disk) (reserved_of area) cells outcome (omega arith) header left
-
-bits_left : (area : Area) (id : ℕ) (disk : List (List ℕ)) (cells : List Cell) (outcome : List (List ℕ)) → LeavesOldOrNew area id disk cells
-    → HasOldBits area disk cells → IsOutcome cells outcome
-    → (k : ℕ) → k < bitmap_sectors_of area → bitmap_sector area outcome k ≡ bitmap_sector area disk k
-bits_left area id disk cells outcome leaves bits left k inside =
-    let reserved = leaves.reserved in
-    left_by_cut (λ value. value ≡ bitmap_sector area disk k) (sector_of_bits area k) cells outcome (omega arith) (bits k inside) left
-
--- without the header before and after, no block is stored before and after
-none_left : (area : Area) (id : ℕ) (disk : List (List ℕ)) (cells : List Cell) (outcome : List (List ℕ)) → LeavesOldOrNew area id disk cells
-    → ¬ HasHeader area id disk → HasOldHeader area disk cells → IsOutcome cells outcome
-    → stored_blocks area id outcome ≡ stored_blocks area id disk
-none_left area id disk cells outcome leaves none header left =
-    let same = old_header_left area id disk cells outcome leaves header left in
-    none_stored area id outcome (λ yes. none (sym same ∙ yes)) ∙ sym (none_stored area id disk none)
-
-zeros_left : (area : Area) (id : ℕ) (disk : List (List ℕ)) (cells : List Cell) (outcome : List (List ℕ)) → LeavesOldOrNew area id disk cells
-    → ¬ HasHeader area id disk → HasOnlyZeros area cells → IsOutcome cells outcome
-    → stored_blocks area id outcome ≡ stored_blocks area id disk
-zeros_left area id disk cells outcome leaves none zeros left =
-    let reserved = leaves.reserved in
-    zeros_stored area id outcome
-    (λ k inside. left_by_cut (λ value. value ≡ zero_bits) (sector_of_bits area k) cells outcome (omega arith) (zeros k inside) left)
-    ∙ sym (none_stored area id disk none)
-
-step_cut : (area : Area) (id : ℕ) (disk : List (List ℕ)) (step : OpeningStep) (cells : List Cell) (outcome : List (List ℕ))
-    → LeavesOldOrNew area id disk cells → CellsAt area id disk step cells → IsOutcome cells outcome
-    → stored_blocks area id outcome ≡ stored_blocks area id disk
-step_cut area id disk ReadHeader cells outcome leaves (header, bits) left =
-    same_stored area id outcome disk (old_header_left area id disk cells outcome leaves header left) (bits_left area id disk cells outcome leaves bits left)
-step_cut area id disk (ReadBits k) cells outcome leaves (header, bits) left =
-    same_stored area id outcome disk (header_left area id disk cells outcome leaves header left) (bits_left area id disk cells outcome leaves bits left)
-step_cut area id disk (WriteZeros k) cells outcome leaves (none, header, zeros) left = none_left area id disk cells outcome leaves none header left
-step_cut area id disk FlushZeros cells outcome leaves (none, header, zeros) left = none_left area id disk cells outcome leaves none header left
-step_cut area id disk WriteHeader cells outcome leaves (none, zeros) left = zeros_left area id disk cells outcome leaves none zeros left
-step_cut area id disk FlushHeader cells outcome leaves (none, zeros, header) left = zeros_left area id disk cells outcome leaves none zeros left
-step_cut area id disk Ended cells outcome leaves kept left = cut_stores_set area id (stored_blocks area id disk) cells outcome kept left
-
--- a cut in an opening leaves the disk's stored blocks
-pub opening_cut : (disk : List (List ℕ)) (o : OpeningState) (sets : Sets) (cells : List Cell) (outcome : List (List ℕ)) → Opens disk o sets cells
-    → IsOutcome cells outcome → stored_blocks o.area o.id outcome ≡ stored_blocks o.area o.id disk
-opening_cut disk o sets cells outcome opens left = step_cut o.area o.id disk o.step cells outcome opens.sectors opens.step left
-
-same_map : {X : Type 0} (f g : ℕ → X) (n : ℕ) (d : X) → ((k : ℕ) → k < n → f k ≡ g k) → map f (range_with_len 0 n) ≡ map g (range_with_len 0 n)
-same_map f g n d same =
-    fill_by_all g (map f (range_with_len 0 n)) n d (length-map-range_with_len f 0 n)
-    (λ k inside. get_or-map-range_with_len f 0 n k k d inside (omega arith) ∙ same k inside)
-
--- and what a guest finds
-pub opening_view : (disk : List (List ℕ)) (o : OpeningState) (sets : Sets) (cells : List Cell) (image outcome : List (List ℕ)) → Opens disk o sets cells
-    → IsOutcome cells outcome → guest_view o.area o.id image outcome ≡ guest_view o.area o.id image disk
-opening_view disk o sets cells image outcome opens left =
-    let reserved = opens.sectors.reserved in
-    let seen : List Bool → List (List ℕ) → ℕ → List ℕ = λ set sectors s. sector_seen o.area set image sectors s in
-    ap (λ set. map (seen set outcome) (range_with_len 0 (reserved_of o.area))) (opening_cut disk o sets cells outcome opens left)
-    ∙ same_map (seen (stored_blocks o.area o.id disk) outcome) (seen (stored_blocks o.area o.id disk) disk) (reserved_of o.area) []
-    (λ s below.
-    let same = left_by_cut (λ value. value ≡ sector_at s disk) s cells outcome (omega arith) (opens.sectors.others s below) left in
-    ap (λ value. if nat_lt s o.area.image && not (has (stored_blocks o.area o.id disk) (s / o.area.block)) then sector_at s image else value) same)
-
 room_for_reserved : (area : Area) → IsSuitable area → 0 < area.image → reserved_of area + (bitmap_sectors_of area + 2) ≡ area.sectors
 room_for_reserved area suitable some = grind arith
 
@@ -381,62 +304,6 @@ pub opens_ended : (ok : Bool) (disk : List (List ℕ)) (o after : OpeningState) 
     → Opens disk o sets old → MadeByOpening ok o buffer old new → Opens disk after sets_after new
 opens_ended ok disk o after buffer sets sets_after old new reached state bitmap opens made =
     rw (state, bitmap) (opens_after ok disk o (take 512 buffer) sets old new reached opens made)
-
--- a cut leaves the sectors below the reserved ones as they were at power-on
-pub others_left : (disk : List (List ℕ)) (o : OpeningState) (sets : Sets) (cells : List Cell) (outcome : List (List ℕ)) → Opens disk o sets cells
-    → IsOutcome cells outcome → (s : ℕ) → s < reserved_of o.area → sector_at s outcome ≡ sector_at s disk
-others_left disk o sets cells outcome opens left s below =
-    let reserved = opens.sectors.reserved in
-    left_by_cut (λ value. value ≡ sector_at s disk) s cells outcome (omega arith) (opens.sectors.others s below) left
-
--- the header old or the run's
-pub either_header_left : (disk : List (List ℕ)) (o : OpeningState) (sets : Sets) (cells : List Cell) (outcome : List (List ℕ)) → Opens disk o sets cells
-    → IsOutcome cells outcome
-    → IsEither (sector_at (reserved_of o.area) disk) (header_of o.area o.id) (sector_at (reserved_of o.area) outcome)
-either_header_left disk o sets cells outcome opens left =
-    let reserved = opens.sectors.reserved in
-    left_by_cut (IsEither (sector_at (reserved_of o.area) disk) (header_of o.area o.id)) (reserved_of o.area) cells outcome (omega arith) opens.sectors.header left
-
--- and each sector of the bitmap old or zeros
-pub either_bits_left : (disk : List (List ℕ)) (o : OpeningState) (sets : Sets) (cells : List Cell) (outcome : List (List ℕ)) → Opens disk o sets cells
-    → IsOutcome cells outcome → (k : ℕ) → k < bitmap_sectors_of o.area
-    → IsEither (bitmap_sector o.area disk k) zero_bits (bitmap_sector o.area outcome k)
-either_bits_left disk o sets cells outcome opens left k inside =
-    let reserved = opens.sectors.reserved in
-    left_by_cut (IsEither (bitmap_sector o.area disk k) zero_bits) (sector_of_bits o.area k) cells outcome (omega arith) (opens.sectors.bits k inside) left
-
--- where no job is next, the bitmap has the disk's stored blocks, and a cut leaves these
-at_end : (area : Area) (id : ℕ) (disk : List (List ℕ)) (step : OpeningStep) (sets : Sets) (cells : List Cell)
-    → sets ≡ alike (blocks_at area id disk step) → CellsAt area id disk step cells → job_at area step ≡ None
-    → (sets ≡ alike (stored_blocks area id disk)) × KeepsBits area id (stored_blocks area id disk) (stored_blocks area id disk) cells
-at_end area id disk ReadHeader sets cells all holds none = absurd (cc)
-at_end area id disk (ReadBits k) sets cells all holds none = absurd (cc)
-at_end area id disk (WriteZeros k) sets cells all holds none = absurd (cc)
-at_end area id disk FlushZeros sets cells all holds none = absurd (cc)
-at_end area id disk WriteHeader sets cells all holds none = absurd (cc)
-at_end area id disk FlushHeader sets cells all holds none = absurd (cc)
-at_end area id disk Ended sets cells all holds none = (all, holds)
-
--- the bitmap's stored blocks are those of the drive's sectors, which a cut may leave as they are
-pub ended_stored : (disk : List (List ℕ)) (o : OpeningState) (sets : Sets) (cells : List Cell) → IsOutcome cells (map current cells)
-    → Opens disk o sets cells → next_in_opening o ≡ None → sets.stored ≡ stored_blocks o.area o.id (map current cells)
-ended_stored disk o sets cells left opens none =
-    let (all, kept) = at_end o.area o.id disk o.step sets cells opens.bitmap opens.step none in
-    ap (λ s. s.stored) all ∙ sym (cut_stores_set o.area o.id (stored_blocks o.area o.id disk) cells (map current cells) kept left)
-
--- and so are the filled ones
-pub ended_filled : (disk : List (List ℕ)) (o : OpeningState) (sets : Sets) (cells : List Cell)
-    → Opens disk o sets cells → next_in_opening o ≡ None → sets.filled ≡ sets.stored
-ended_filled disk o sets cells opens none =
-    let (all, kept) = at_end o.area o.id disk o.step sets cells opens.bitmap opens.step none in
-    ap (λ s. s.filled) all ∙ sym (ap (λ s. s.stored) all)
-
--- a cut leaves these
-pub ended_kept : (disk : List (List ℕ)) (o : OpeningState) (sets : Sets) (cells : List Cell)
-    → Opens disk o sets cells → next_in_opening o ≡ None → KeepsBits o.area o.id sets.stored sets.stored cells
-ended_kept disk o sets cells opens none =
-    let (all, kept) = at_end o.area o.id disk o.step sets cells opens.bitmap opens.step none in
-    subst (λ set. KeepsBits o.area o.id set set cells) (sym (ap (λ s. s.stored) all)) kept
 
 header_written : (area : Area) (id : ℕ) (disk : List (List ℕ)) (step : OpeningStep) (cells : List Cell) (count : ℕ)
     → CellsAt area id disk step cells → job_at area step ≡ Some (Write (reserved_of area) count) → HasOnlyZeros area cells

@@ -1,36 +1,26 @@
 -- The values of cells: after a write, after a flush, after older ones were forgotten, and after a cut.
-use Rattle.std.proofs.Common.{◌≡◌, ◌≢◌, ℕ, zero, suc, ◌<◌, ◌++◌, List, [], ◌∷◌, length, map, get_or, arith, refl, ap, sym, ◌==◌, if◌then◌else◌, inl, inr}
+use Rattle.std.proofs.Common.{◌≡◌, ◌≢◌, ℕ, zero, suc, ◌<◌, List, [], ◌∷◌, length, map, get_or, arith, refl, ap, sym, ◌==◌, if◌then◌else◌, inl, inr}
 use Rattle.std.proofs.Math.Path.{subst}
 use Rattle.std.specs.Prelude.{All, Contains}
 use Rattle.std.proofs.lemmas.Bool.Decides.{eqb_tells}
 use Rattle.std.proofs.lemmas.List.{get_or_default, length-map}
+use Rattle.std.proofs.lemmas.List.Elements.{All-cons, All-contains}
 use Rattle.ata_taskfile.specs.Device.{Cell}
 use Rattle.plain_drive.specs.Plain.{current, values, settled, flushed, appended, all_flushed}
 use Rattle.plain_drive.specs.Cut.{IsOutcome}
+use Rattle.plain_drive.proofs.Cells.{contained_alone, current_is_a_value, appended-others}
 use Rattle.fill_bitmap.specs.Disk.{sector_at}
 use Rattle.fill_store.specs.Cells.{cell_at, value_at, Each, ForgetsOld}
 
--- what each element of a list is, one of them is
-pub one_of_all : {X : Type 0} (P : X → Type 0) (xs : List X) (x : X) → All P xs → Contains xs x → P x
-one_of_all P xs x each (k, below, at) = subst P at (each k x below)
-
--- one element more in front
-more_in_front : (P : List ℕ → Type 0) (x : List ℕ) (xs : List (List ℕ)) → P x → All P xs → All P (x ∷ xs)
-more_in_front P x xs here rest zero d below = here
-more_in_front P x xs here rest (suc k) d below = rest k d (omega arith)
-
 -- one element alone
 alone : (P : List ℕ → Type 0) (x : List ℕ) → P x → All P (x ∷ [])
-alone P x here zero d below = here
-alone P x here (suc k) d below = absurd (omega arith)
-
-newest_of : (P : List ℕ → Type 0) (durable : List ℕ) (written : List (List ℕ)) → All P (written ++ durable ∷ []) → P (get_or written 0 durable)
-newest_of P durable [] each = each 0 durable (omega arith)
-newest_of P durable (value ∷ written) each = each 0 value (omega arith)
+alone P x here = All-cons P x [] here (λ k d below. absurd (omega arith))
 
 -- the newest value of a sector is one of its values
 pub newest : (P : List ℕ → Type 0) (s : ℕ) (cells : List Cell) → Each P s cells → P (value_at s cells)
-newest P s cells each = newest_of P (cell_at s cells).durable (cell_at s cells).written each
+newest P s cells each =
+    let cell : Cell = cell_at s cells in
+    All-contains P (values cell) (current cell) each (current_is_a_value cell)
 
 -- what each value of a sector is, and what follows from it
 pub each_map : (P Q : List ℕ → Type 0) (s : ℕ) (cells : List Cell) → ((value : List ℕ) → P value → Q value) → Each P s cells → Each Q s cells
@@ -40,24 +30,14 @@ each_map P Q s cells follows each k d below = follows (get_or (values (cell_at s
 pub each_written : (P : List ℕ → Type 0) (s other : ℕ) (bytes : List ℕ) (cells : List Cell)
     → (other ≡ s → P bytes) → Each P other cells → Each P other (appended s bytes cells)
 each_written P s other bytes [] new each = each
-each_written P zero zero bytes (cell ∷ cells) new each = more_in_front P bytes (values cell) (new refl) each
+each_written P zero zero bytes (cell ∷ cells) new each = All-cons P bytes (values cell) (new refl) each
 each_written P zero (suc other) bytes (cell ∷ cells) new each = each
 each_written P (suc s) zero bytes (cell ∷ cells) new each = each
 each_written P (suc s) (suc other) bytes (cell ∷ cells) new each = each_written P s other bytes cells (λ e. new (ap suc e)) each
 
 -- the newest value of another sector stays where one is written
 pub other_written : (s other : ℕ) (bytes : List ℕ) (cells : List Cell) → other ≢ s → value_at other (appended s bytes cells) ≡ value_at other cells
-other_written s other bytes [] apart = refl
-other_written zero zero bytes (cell ∷ cells) apart = absurd (apart refl)
-other_written zero (suc other) bytes (cell ∷ cells) apart = refl
-other_written (suc s) zero bytes (cell ∷ cells) apart = refl
-other_written (suc s) (suc other) bytes (cell ∷ cells) apart = other_written s other bytes cells (λ e. apart (ap suc e))
-
--- the newest value of the sector that is written is what was written
-pub newest_written : (s : ℕ) (bytes : List ℕ) (cells : List Cell) → s < length cells → value_at s (appended s bytes cells) ≡ bytes
-newest_written s bytes [] below = absurd (omega arith)
-newest_written zero bytes (cell ∷ cells) below = refl
-newest_written (suc s) bytes (cell ∷ cells) below = newest_written s bytes cells (omega arith)
+other_written s other bytes cells apart = ap current (appended-others s other bytes cells apart)
 
 -- a write and a flush leave as many cells
 pub length-appended : (s : ℕ) (bytes : List ℕ) (cells : List Cell) → length (appended s bytes cells) ≡ length cells
@@ -81,14 +61,6 @@ each_flushed P s cells new = subst (λ cell. All P (values cell)) (sym (cell_flu
 pub newest_flushed : (s : ℕ) (cells : List Cell) → value_at s (all_flushed cells) ≡ value_at s cells
 newest_flushed s cells = ap current (cell_flushed s cells)
 
-contained_alone : (x y : List ℕ) → Contains (x ∷ []) y → y ≡ x
-contained_alone x y (zero, below, at) = sym at
-contained_alone x y (suc k, below, at) = absurd (omega arith)
-
-contained_newest : (durable : List ℕ) (written : List (List ℕ)) → Contains (written ++ durable ∷ []) (get_or written 0 durable)
-contained_newest durable [] = (0, omega arith, refl)
-contained_newest durable (value ∷ written) = (0, omega arith, refl)
-
 -- the newest value of a sector is all that a flush leaves of it
 pub flushed_alone : (s : ℕ) (cells : List Cell) (value : List ℕ) → Contains (values (cell_at s (all_flushed cells))) value → value ≡ value_at s cells
 flushed_alone s cells value held =
@@ -101,7 +73,7 @@ flush_forgets cells = record {
   newest = λ s. newest_flushed s cells;
   values = λ s value held.
       let only = flushed_alone s cells value held in
-      subst (Contains (values (cell_at s cells))) (sym only) (contained_newest (cell_at s cells).durable (cell_at s cells).written);
+      subst (Contains (values (cell_at s cells))) (sym only) (current_is_a_value (cell_at s cells));
 }
 
 -- what each value of a sector is, each is where older ones were forgotten
@@ -109,7 +81,7 @@ pub each_forgets : (P : List ℕ → Type 0) (s : ℕ) (old new : List Cell) →
 each_forgets P s old new forgets each k d below =
     let xs : List (List ℕ) = values (cell_at s new) in
     let x : List ℕ = get_or xs k d in
-    one_of_all P (values (cell_at s old)) x each (forgets.values s x (k, below, get_or_default xs k x d below))
+    All-contains P (values (cell_at s old)) x each (forgets.values s x (k, below, get_or_default xs k x d below))
 
 -- a cut leaves of each sector one of its values
 in_outcome : (s : ℕ) (cells : List Cell) (outcome : List (List ℕ)) → s < length cells → IsOutcome cells outcome
@@ -123,7 +95,7 @@ in_outcome (suc s) (cell ∷ cells) (value ∷ outcome) below left = in_outcome 
 pub left_by_cut : (P : List ℕ → Type 0) (s : ℕ) (cells : List Cell) (outcome : List (List ℕ)) → s < length cells
     → Each P s cells → IsOutcome cells outcome → P (sector_at s outcome)
 left_by_cut P s cells outcome below each left =
-    one_of_all P (values (cell_at s cells)) (sector_at s outcome) each (in_outcome s cells outcome below left)
+    All-contains P (values (cell_at s cells)) (sector_at s outcome) each (in_outcome s cells outcome below left)
 
 -- at power-on a sector has one value
 pub at_power_on : (P : List ℕ → Type 0) (s : ℕ) (disk : List (List ℕ)) → s < length disk → P (sector_at s disk) → Each P s (map settled disk)

@@ -1,4 +1,4 @@
-use Rattle.fill_store.proofs.Opens.{opening_cut, opening_view}
+use Rattle.fill_store.proofs.OpeningCuts.{opening_cut, opening_view}
 use Rattle.fill_store.proofs.laws.a_cut_in_an_opening_stores_what_was_stored.Goals as goal
 
 pub returns : goal.returns

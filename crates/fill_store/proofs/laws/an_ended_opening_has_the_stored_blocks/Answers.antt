@@ -1,4 +1,4 @@
-use Rattle.fill_store.proofs.Opens.{ended_stored, ended_filled, ended_kept}
+use Rattle.fill_store.proofs.OpeningCuts.{ended_stored, ended_filled, ended_kept}
 use Rattle.fill_store.proofs.laws.an_ended_opening_has_the_stored_blocks.Goals as goal
 
 pub returns : goal.returns
