@@ -11,7 +11,7 @@ use Rattle.ata_taskfile.specs.declared.bus_master.Bus.{Bus}
 use Rattle.ata_taskfile.specs.TaskFile.{ended_failed, announced, addressed}
 use Rattle.ata_taskfile.specs.Bus.{walk_ended}
 use Rattle.ata_taskfile.specs.Order.{has_range}
-use Rattle.ata_taskfile.specs.Data.{gives_words, takes_words, moves_by_bus}
+use Rattle.ata_taskfile.specs.Data.{takes_words, moves_by_bus}
 use Rattle.ata_taskfile.specs.Lawful.{AreLawful, IsLawfulState}
 use Rattle.bm_dma.specs.Run.{run_of, sector_places, is_tables_end, found_as}
 use Rattle.bm_dma.specs.Move.{moved_as, outcome, outcome_in, bus_after, bus_next, bus_in}
@@ -76,20 +76,6 @@ pub walked_lawful : (f : TaskFile) (b : Bus) (words n : ℕ) (order : Request) (
     → IsLawfulState (record f { phase = Busy (Good order) (position_after (outcome b memory) done) }) (bus_next b memory) words n
 walked_lawful f b words n order done memory e moves more l = record {
   registers = walked_registers b.walk memory f.phase order done f.control f.device f.error f.failed f.pending b refl e moves more l.registers;
-  within = let h = l.within in rw e at h;
-  block = grind arith;
-}
-
--- a block that waits in Data
-offered_registers : (phase : Phase) (order : Request) (done c device error : ℕ) (failed pending : Bool) (b : Bus) → phase ≡ Busy (Good order) done
-    → gives_words order.form ≡ true → AreLawful c device error failed pending phase b
-    → AreLawful c device error failed true (Ready (Good order) done 256) b
-offered_registers phase order done c device error failed pending b e gives l = grind arith
-
-pub offered_lawful : (f : TaskFile) (b : Bus) (words n : ℕ) (order : Request) (done : ℕ) → f.phase ≡ Busy (Good order) done → gives_words order.form ≡ true
-    → IsLawfulState f b words n → IsLawfulState (announced (Ready (Good order) done 256) f) b 256 n
-offered_lawful f b words n order done e gives l = record {
-  registers = offered_registers f.phase order done f.control f.device f.error f.failed f.pending b e gives l.registers;
   within = let h = l.within in rw e at h;
   block = grind arith;
 }

@@ -19,12 +19,12 @@ use Rattle.ata_taskfile.specs.Data.{gives_words, takes_words, moves_by_bus}
 use Rattle.ata_taskfile.specs.Device.{Device, with_bus}
 use Rattle.ata_taskfile.specs.Lawful.{IsLawfulState, IsLawful}
 use Rattle.ata_taskfile.proofs.Lawfulness.{raised_lawful}
-use Rattle.ata_taskfile.proofs.Ends.{is_due, reset_ended_lawful, refused_lawful}
+use Rattle.ata_taskfile.proofs.Ends.{announced_lawful, is_due, reset_ended_lawful, refused_lawful}
 use Rattle.plain_drive.specs.Plain.{Plain, with_registers, with_block, sector_value, words_of}
 use Rattle.plain_drive.specs.Laws.{HasWholeSectors}
 use Rattle.plain_drive.specs.Step.{words_due, offered, ended, next_wanted, first_wanted, walked, sector_given, transferred, proceeded, stepped, failed_step, failure_shown, failure_bit, step_made}
 use Rattle.plain_drive.proofs.Words.{identity-length}
-use Rattle.plain_drive.proofs.Ends.{ended_lawful, transferred_lawful, walked_lawful, offered_lawful, wanted_lawful, first_wanted_lawful, given_up_lawful}
+use Rattle.plain_drive.proofs.Ends.{ended_lawful, transferred_lawful, walked_lawful, wanted_lawful, first_wanted_lawful, given_up_lawful}
 
 -- other registers, which are lawful
 registers_lawful : (f : TaskFile) (p : Plain) → IsLawfulState f p.device.bus (length p.device.block) p.device.sectors → IsLawful (with_registers f p).device
@@ -51,7 +51,7 @@ module _ (order : Request) (done : ℕ) (p : Plain) (e : p.device.file.phase ≡
   loaded-lawful gives whole =
       let block = words_due order.kind (order.first + done) p.device in
       let many = due-length order.kind (order.first + done) p.device (whole (order.first + done) (is_due p.device.file p.device.bus (length p.device.block) p.device.sectors order done e gives l)) in
-      registers_lawful (announced (Ready (Good order) done 256) p.device.file) (with_block block p) (rw many (offered_lawful p.device.file p.device.bus (length p.device.block) p.device.sectors order done e gives l))
+      registers_lawful (announced (Ready (Good order) done 256) p.device.file) (with_block block p) (rw many (announced_lawful p.device.file p.device.bus (length p.device.block) p.device.sectors order done e gives l))
 
   next-lawful : takes_words order.form ≡ true → (more : Bool) → nat_lt done order.count ≡ more
       → IsLawful (if more then offered order done [] p else ended p).device

@@ -54,10 +54,6 @@ accessed_shared cells access.ReadPointer d = refl
 accessed_shared cells (access.WritePointer v) d = refl
 accessed_shared cells access.Line d = refl
 
--- its own stay too
-pub accessed-cells : (a : Access) (d : Device) → (accessed a d).cells ≡ d.cells
-accessed-cells a d = ap (λ (e : Device). e.cells) (accessed_shared d.cells a d)
-
 -- and answers the same
 pub answer_shared : (cells : List Cell) (a : Access) (d : Device) → answer_to a (celled cells d) ≡ answer_to a d
 answer_shared cells (access.Read8 r) d = refl

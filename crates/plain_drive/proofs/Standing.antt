@@ -10,7 +10,8 @@ use Rattle.plain_drive.specs.Step.{step_made, acts}
 use Rattle.plain_drive.specs.Cut.{IsOutcome, drive_at_power_on}
 use Rattle.plain_drive.specs.Physical.{Kept, Physical, StandsFor, AreEndsOf, cells_of, fresh, kept_after, keeping, seen, physical_accessed, physical_step, physical_destaged, physical_at_power_on, physical_cut}
 use Rattle.plain_drive.proofs.CellEnds.{ends-current, changed_ends, destaged_ends, durable_alone_ends, ends-outcome}
-use Rattle.plain_drive.proofs.Shared.{accessed_shared, accessed-cells, answer_shared, acts_shared, change_shared, step_shared}
+use Rattle.ata_taskfile.proofs.Cells.{accessed-cells}
+use Rattle.plain_drive.proofs.Shared.{accessed_shared, answer_shared, acts_shared, change_shared, step_shared}
 
 -- a drive that keeps this stands for a plain one that differs in its cells alone, where these are ends
 stands_from : (k : Kept) (q p : Plain) (cells : List Cell) → q ≡ with_cells cells p → AreEndsOf (cells_of k) p.device.cells → StandsFor (keeping k q) p

@@ -20,7 +20,7 @@ use drive_store::{Store, StoreFault};
 
 impl<S: Store> Drive<S> {
     // Loads the words that are due, which wait in Data from now on.
-    #[tactic(auto, using(ata_taskfile::proofs::Ends::is_due, plain_drive::proofs::Ends::offered_lawful))]
+    #[tactic(auto, using(ata_taskfile::proofs::Ends::is_due, ata_taskfile::proofs::Ends::announced_lawful))]
     pub(crate) fn give_block(&mut self, order: Request, done: u32) -> Result<Stepped, StoreFault>
         requires phase { self.old.file.phase ≡ Phase.Busy (Taken.Good order) done }
         requires gives { gives_words order.form ≡ true }
