@@ -3,7 +3,7 @@
 ghost use Rattle.std.specs.Prelude.{◌≡◌, ◌≤◌, ◌<◌, ◌+◌, ◌↔◌, List, length, take, drop, MatchOption, MatchResult, IfErr, Ok, Err};
 ghost use Rattle.aoe_frame.specs.declared.message.Header.{Header as HeaderOf};
 ghost use Rattle.aoe_frame.specs.declared.message.Aoe.{Aoe as AoeOf};
-ghost use Rattle.aoe_frame.specs.Layout.{HasHeader, HasArgument, ArgumentFits, AtaFits, ConfigFits, IsOf, ata_bytes, config_bytes};
+ghost use Rattle.aoe_frame.specs.Layout.{HasHeader, HasArgument, ArgumentFits, AtaFits, ConfigFits, IsOf};
 ghost use Rattle.aoe_frame.specs.Reading.{IsReading, IsAoe, IsMessage, IsOfOtherType, IsOfOtherVersion, IsShort, bytes_needed};
 
 use crate::numbers::{u16_at, u32_at, u48_at};

@@ -2,7 +2,7 @@
 //! type, version and flags, error, shelf, slot, command and tag, and then the argument.
 
 ghost use Rattle.std.specs.Prelude.{◌≡◌};
-ghost use Rattle.aoe_frame.specs.Layout.{AtaFits, Fits, HeaderFits, IsWritable};
+ghost use Rattle.aoe_frame.specs.Layout.{ArgumentFits, AtaFits, HeaderFits, IsWritable};
 
 use crate::*;
 use std::alloc::Global;
@@ -23,6 +23,7 @@ fn frame_of(alloc: Global, text: &str) -> Result<Frame, Fail> {
     Ok(Frame::from_slice(&bytes).ok_or("a frame has at most 1,060 bytes")?)
 }
 
+// The request's header.
 const HEADER: Header = Header {
     dest: [2, 0, 0, 0, 0, 2],
     source: [2, 0, 0, 0, 0, 1],
@@ -58,11 +59,19 @@ fn part() -> AtaPart
 }
 
 // A message is written as these bytes, and read back from them.
-fn assert_both_ways(rt: &impl Abort, alloc: Global, text: &str, message: Aoe) -> Result<(), Fail>
-    requires fits { Fits message }
-    requires kind { IsWritable message.header.command message.argument }
+fn assert_both_ways(
+    rt: &impl Abort,
+    alloc: Global,
+    text: &str,
+    header: Header,
+    argument: Argument,
+) -> Result<(), Fail>
+    requires header { HeaderFits header }
+    requires argument { ArgumentFits argument }
+    requires kind { IsWritable header.command argument }
 {
     let frame = frame_of(alloc, text)?;
+    let message = Aoe { header, argument };
     assert_eq!(rt; write(&message), frame);
     assert_eq!(rt; parse(&frame), Ok(message));
     Ok(())
@@ -70,15 +79,8 @@ fn assert_both_ways(rt: &impl Abort, alloc: Global, text: &str, message: Aoe) ->
 
 #[test]
 fn the_request_both_ways(rt: HostRuntime) -> Result<(), Fail> {
-    assert_both_ways(
-        &rt,
-        rt.alloc(),
-        REQUEST,
-        Aoe {
-            header: HEADER,
-            argument: Argument::Ata(part()),
-        },
-    )
+    let argument = Argument::Ata(part());
+    assert_both_ways(&rt, rt.alloc(), REQUEST, HEADER, argument)
 }
 
 // No two bytes are equal.
@@ -107,15 +109,7 @@ fn an_ata_argument_both_ways(rt: HostRuntime) -> Result<(), Fail> {
         lba: 0x4948_4746_4544,
         body,
     };
-    assert_both_ways(
-        &rt,
-        rt.alloc(),
-        text,
-        Aoe {
-            header,
-            argument: Argument::Ata(part),
-        },
-    )
+    assert_both_ways(&rt, rt.alloc(), text, header, Argument::Ata(part))
 }
 
 #[test]
@@ -129,29 +123,14 @@ fn a_configuration_both_ways(rt: HostRuntime) -> Result<(), Fail> {
         code: 6,
         length: 0x5758,
     };
-    assert_both_ways(
-        &rt,
-        rt.alloc(),
-        text,
-        Aoe {
-            header: of_command(CONFIG),
-            argument: Argument::Config(config),
-        },
-    )
+    let argument = Argument::Config(config);
+    assert_both_ways(&rt, rt.alloc(), text, of_command(CONFIG), argument)
 }
 
 #[test]
 fn no_argument_both_ways(rt: HostRuntime) -> Result<(), Fail> {
     let text = "020000000002 020000000001 88a2 10 00 0001 01 02 00000001";
-    assert_both_ways(
-        &rt,
-        rt.alloc(),
-        text,
-        Aoe {
-            header: of_command(2),
-            argument: Argument::Other,
-        },
-    )
+    assert_both_ways(&rt, rt.alloc(), text, of_command(2), Argument::Other)
 }
 
 // Bytes that are not looked at.

@@ -1,7 +1,6 @@
 //! The bytes of what a frame says.
 
-ghost use Rattle.std.specs.Prelude.{◌≡◌, ◌≤◌, ◌<◌, ◌+◌, ◌^◌, ◌++◌, ◌∷◌, List, ℕ, [], length};
-ghost use Rattle.byteorder.specs.Endian.{big_bytes, little_bytes};
+ghost use Rattle.std.specs.Prelude.{◌≡◌, ◌≤◌, ◌+◌, ◌++◌, List, ℕ, [], length};
 ghost use Rattle.aoe_frame.specs.Layout.{AtaFits, ConfigFits, Fits, IsOf, IsWritable, Says, argument_written, frame_of, header_bytes, HeaderFits};
 
 use crate::frame::{FrameBytes, MOST_BYTES};
