@@ -1,22 +1,20 @@
 -- What the buffers hold while frames are heard.
-use Rattle.std.proofs.Common.{◌≡◌, ◌≢◌, ℕ, zero, suc, ◌+◌, ◌-◌, ◌*◌, ◌<◌, ◌≤◌, Bool, true, false, List, [], ◌∷◌, ◌++◌, length, take, drop, slice_get, slice_set, Option, Some, None, refl, sym, ap, ◌∙◌, inl, inr, arith, cond}
-use Rattle.std.specs.Prelude.{nat_lt, IfSome}
-use Rattle.std.specs.List.{list_all}
+use Rattle.std.proofs.Common.{◌≡◌, ◌≢◌, ℕ, zero, suc, ◌+◌, ◌-◌, ◌*◌, ◌<◌, ◌≤◌, Bool, true, false, List, [], ◌∷◌, ◌++◌, length, slice_get, slice_set, Option, Some, None, refl, sym, ap, ◌∙◌, inl, inr, arith, cond}
+use Rattle.std.specs.Prelude.{nat_lt}
 use Rattle.std.proofs.Math.ListN.{length-set}
-use Rattle.std.proofs.Math.Nat.{mul-le-mul_right, suc-mul}
-use Rattle.std.proofs.lemmas.List.{take-append-drop, take-take, drop-take}
+use Rattle.std.proofs.Math.Nat.{mul-le-mul_right}
 use Rattle.std.proofs.lemmas.Bool.{cases_eq, cases_lt, cond_below, cond_above, true≢false}
 use Rattle.std.proofs.lemmas.Option.{slice_get_within}
 use Rattle.mon_pool.specs.Region.{Region, AreOf, IsOf, IsWhole, bytes_of}
 use Rattle.mon_pool.proofs.Slots.{of_before}
 use Rattle.mon_pool.proofs.Parts.{length_bytes, length_written, part_written, part_kept, own_bytes, others_bytes, whole_written}
 use Rattle.aoe_client.specs.declared.tags.TagState.{TagState}
-use Rattle.aoe_client.specs.declared.tags.TagState.TheVariants.{Due, Sent, Answered}
+use Rattle.aoe_client.specs.declared.tags.TagState.TheVariants.{Answered}
 use Rattle.aoe_client.specs.declared.tags.TheConstants.{PART_BYTES}
-use Rattle.aoe_client.specs.Fetching.{Fetching, first_tag, is_answered, is_open, part, state_of, with_part, with_sectors, with_tag}
-use Rattle.aoe_client.specs.Asking.{Asking, HasRoom, HasTags, heard, buffers_heard, done_in, is_open_in, lease_in, leases_of, slot_answered, slot_filled, tags_in}
+use Rattle.aoe_client.specs.Fetching.{Fetching, first_tag, is_open, part, state_of, with_part, with_sectors, with_tag}
+use Rattle.aoe_client.specs.Asking.{Asking, HasRoom, HasTags, heard, buffers_heard, is_open_in, lease_in, leases_of, slot_answered, slot_filled}
 use Rattle.aoe_client.specs.declared.client.Heard.TheVariants.{Took}
-use Rattle.aoe_client.specs.Buffers.{BothHold, Holds, IsFetched, given_from}
+use Rattle.aoe_client.specs.Buffers.{BothHold, Holds}
 
 get_other : (tags : List TagState) (k i : ℕ) (x : TagState) → i ≢ k → slice_get (slice_set tags k x) i ≡ slice_get tags i
 get_other [] k i x apart = refl
