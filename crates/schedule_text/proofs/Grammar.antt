@@ -1,5 +1,5 @@
 -- What a line says: one event at most.
-use Rattle.std.proofs.Common.{ℕ, ◌≡◌, ◌<◌, ◌≤◌, ◌^◌, ◌++◌, ◌==◌, if◌then◌else◌, List, [], ◌∷◌, length, length-append, codes, decimal, get_or, drop, ap, sym, ◌∙◌, subst, refl, arith, append-nil, Result, Ok, Err, inl, inr}
+use Rattle.std.proofs.Common.{ℕ, ◌≡◌, ◌<◌, ◌≤◌, ◌^◌, ◌++◌, ◌==◌, if◌then◌else◌, List, [], ◌∷◌, length, length-append, codes, decimal, get_or, drop, ap, sym, ◌∙◌, subst, refl, arith, append-nil, Result, Ok, Err, MatchResult, inl, inr}
 use Rattle.std.specs.Str.Parse.{digits_value}
 use Rattle.std.proofs.lemmas.Fmt.{length-decimal-le}
 use Rattle.ata_taskfile.specs.declared.Reg.{Reg}
@@ -11,7 +11,7 @@ use Rattle.schedule_text.specs.declared.Event.TheVariants as event
 use Rattle.schedule_text.specs.declared.LineFault.{LineFault}
 use Rattle.schedule_text.specs.declared.LineFault.TheVariants as fault
 use Rattle.schedule_text.specs.declared.TheConstants.{LINE_BYTES}
-use Rattle.schedule_text.specs.Line.{register_text, hex_byte, hex_text, hex_long, IsInRange, IsTextOf, Says, IsOutOfRange, Reads}
+use Rattle.schedule_text.specs.Line.{register_text, hex_byte, hex_text, hex_long, IsInRange, IsTextOf, Says, HasFault, IsOutOfRange}
 use Rattle.schedule_text.proofs.Hex.{told_bytes, told_bytes-hex_text, told_long, told_long-hex_long, byte_value, byte_value-hex_byte, length-hex_text}
 
 -- the register that two bytes name
@@ -106,6 +106,10 @@ pub says_in_range : (line : List ℕ) (e : Event) → Says line e → ¬ IsOutOf
 says_in_range line e said (short, inl (text, is, beyond)) = beyond.1 (range_told line e (codes "g rd " ++ text) said is)
 says_in_range line e said (short, inr (inl (a, text, small, is, beyond))) = let range = range_told line e (codes "g mr " ++ hex_long a ++ 32 ∷ text) said is in beyond.1 (range.1, range.2)
 says_in_range line e said (short, inr (inr (text, is, beyond))) = beyond.1 (omega arith, range_told line e (codes "d put " ++ text) said is)
+
+-- the answer to a line: what it says, or its fault
+abbrev Reads : List ℕ → Result Event LineFault → Type 0
+Reads line answer = MatchResult answer (Says line) (HasFault line)
 
 -- the answer to a line that says an event is that event
 pub only_said : (line : List ℕ) (answer : Result Event LineFault) → Reads line answer → (e : Event) → Says line e → answer ≡ Ok e

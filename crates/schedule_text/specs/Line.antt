@@ -122,9 +122,9 @@ HasFault line fault.NoEnd = ⊥
 HasFault line fault.TooMany = ⊥
 HasFault line fault.Trailing = ⊥
 
--- the answer to a line: what it says, or its fault
-abbrev pub Reads : List ℕ → Result Event LineFault → Type 0
-Reads line answer = MatchResult answer (Says line) (HasFault line)
+-- the answer to a line that is read into an event: done where the line says that event now, or its fault
+abbrev pub ReadsInto : {U : Type 0} → List ℕ → Event → Result U LineFault → Type 0
+ReadsInto line event answer = MatchResult answer (λ done. Says line event) (HasFault line)
 
 -- the answer to a decimal number of a line that may be from low to high: the number, or its fault
 abbrev pub ReadsNumber : ℕ → ℕ → List ℕ → Result ℕ LineFault → Type 0

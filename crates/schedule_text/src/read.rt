@@ -3,7 +3,7 @@
 ghost use Rattle.std.specs.Prelude.{◌≡◌, ◌<◌, ◌≤◌, ◌+◌, ◌++◌, ◌∷◌, ◌↔◌, ℕ, List};
 ghost use Rattle.std.specs.Prelude.{length, codes, IfOk, IfErr};
 ghost use Rattle.schedule_text.specs.declared.Event.{Event as EventOf};
-ghost use Rattle.schedule_text.specs.Line.{hex_long, Says, Reads, HasFault, IsOutOfRange, IsFormless};
+ghost use Rattle.schedule_text.specs.Line.{hex_long, Says, ReadsInto, HasFault, IsOutOfRange, IsFormless};
 
 use crate::parts::{address_and_rest, after, bytes, long, number, register, register_and_byte};
 use crate::{Event, LINE_BYTES, LineFault};
@@ -25,173 +25,187 @@ pub fn read_line(line: &[u8]) -> Result<Event, LineFault>
     if line.len() > LINE_BYTES {
         return Err(LineFault::LongLine);
     }
-    read_short_line(line)
+    let mut event = Event::Remark;
+    read_short_line(line, &mut event)?;
+    Ok(event)
 }
 
-fn read_short_line(line: &[u8]) -> Result<Event, LineFault>
+// What the line says is put in place of `event`, and so below: an event is large, and is made where it is to stand.
+fn read_short_line(line: &[u8], event: &mut Event) -> Result<(), LineFault>
     requires { length line.now ≤ LINE_BYTES }
-    ensures reads { Reads line.now result }
+    ensures reads { ReadsInto line.now event.new result }
 {
     match line {
-        [b'g', b' ', access @ ..] => read_access(access),
-        [b'd', b' ', act @ ..] => read_act(act),
-        [] | [b'#', ..] => Ok(Event::Remark),
-        b"cut" => Ok(Event::Cut),
-        b"end" => Ok(Event::End),
-        _ => Err(LineFault::Form),
+        [b'g', b' ', access @ ..] => return read_access(access, event),
+        [b'd', b' ', act @ ..] => return read_act(act, event),
+        [] | [b'#', ..] => *event = Event::Remark,
+        b"cut" => *event = Event::Cut,
+        b"end" => *event = Event::End,
+        _ => return Err(LineFault::Form),
     }
+    Ok(())
 }
 
 // An access of the guest.
-fn read_access(access: &[u8]) -> Result<Event, LineFault>
+fn read_access(access: &[u8], event: &mut Event) -> Result<(), LineFault>
     requires { 2 + length access.now ≤ LINE_BYTES }
-    ensures reads { Reads (codes "g " ++ access.now) result }
+    ensures reads { ReadsInto (codes "g " ++ access.now) event.new result }
 {
     if let Some(name) = after(access, b"r8 ") {
-        return read_read8(name);
+        return read_read8(name, event);
     }
     if let Some(rest) = after(access, b"w8 ") {
-        return read_write8(rest);
+        return read_write8(rest, event);
     }
     if let Some(digits) = after(access, b"rd ") {
-        return read_words(digits);
+        return read_words(digits, event);
     }
     if let Some(hex) = after(access, b"wd ") {
-        return read_write_words(hex);
+        return read_write_words(hex, event);
     }
     if let Some(hex) = after(access, b"w32 ") {
-        return read_write_pointer(hex);
+        return read_write_pointer(hex, event);
     }
     if let Some(rest) = after(access, b"mr ") {
-        return read_memory(rest);
+        return read_memory(rest, event);
     }
     if let Some(rest) = after(access, b"mw ") {
-        return read_write_memory(rest);
+        return read_write_memory(rest, event);
     }
     match access {
-        b"r32" => Ok(Event::ReadPointer),
-        b"line" => Ok(Event::Line),
-        _ => Err(LineFault::Form),
+        b"r32" => *event = Event::ReadPointer,
+        b"line" => *event = Event::Line,
+        _ => return Err(LineFault::Form),
     }
+    Ok(())
 }
 
 // An act of the drive.
-fn read_act(act: &[u8]) -> Result<Event, LineFault>
+fn read_act(act: &[u8], event: &mut Event) -> Result<(), LineFault>
     requires { 2 + length act.now ≤ LINE_BYTES }
-    ensures reads { Reads (codes "d " ++ act.now) result }
+    ensures reads { ReadsInto (codes "d " ++ act.now) event.new result }
 {
     if let Some(digits) = after(act, b"put ") {
-        return read_destage(digits);
+        return read_destage(digits, event);
     }
     match act {
-        b"ok" => Ok(Event::Drive(Step::Good)),
-        b"bad" => Ok(Event::Drive(Step::Bad)),
-        _ => Err(LineFault::Form),
+        b"ok" => *event = Event::Drive(Step::Good),
+        b"bad" => *event = Event::Drive(Step::Bad),
+        _ => return Err(LineFault::Form),
     }
+    Ok(())
 }
 
-fn read_read8(name: &[u8]) -> Result<Event, LineFault>
+fn read_read8(name: &[u8], event: &mut Event) -> Result<(), LineFault>
     requires { 5 + length name.now ≤ LINE_BYTES }
-    ensures reads { Reads (codes "g r8 " ++ name.now) result }
+    ensures reads { ReadsInto (codes "g r8 " ++ name.now) event.new result }
 {
     match register(name) {
-        Some(register) => Ok(Event::Read8(register)),
-        None => Err(LineFault::Form),
+        Some(register) => *event = Event::Read8(register),
+        None => return Err(LineFault::Form),
     }
+    Ok(())
 }
 
-fn read_write8(rest: &[u8]) -> Result<Event, LineFault>
+fn read_write8(rest: &[u8], event: &mut Event) -> Result<(), LineFault>
     requires { 5 + length rest.now ≤ LINE_BYTES }
-    ensures reads { Reads (codes "g w8 " ++ rest.now) result }
+    ensures reads { ReadsInto (codes "g w8 " ++ rest.now) event.new result }
 {
     match register_and_byte(rest) {
-        Some((register, byte)) => Ok(Event::Write8(register, byte)),
-        None => Err(LineFault::Form),
+        Some((register, byte)) => *event = Event::Write8(register, byte),
+        None => return Err(LineFault::Form),
     }
+    Ok(())
 }
 
-fn read_words(digits: &[u8]) -> Result<Event, LineFault>
+fn read_words(digits: &[u8], event: &mut Event) -> Result<(), LineFault>
     requires { 5 + length digits.now ≤ LINE_BYTES }
-    ensures reads { Reads (codes "g rd " ++ digits.now) result }
+    ensures reads { ReadsInto (codes "g rd " ++ digits.now) event.new result }
 {
     match number(digits, 1, 256) {
-        Ok(count) => Ok(Event::ReadWords(count)),
-        Err(fault) => Err(fault),
+        Ok(count) => *event = Event::ReadWords(count),
+        Err(fault) => return Err(fault),
     }
+    Ok(())
 }
 
 #[tactic(auto, using(crate::proofs::Hex::lengths))]
-fn read_write_words(hex: &[u8]) -> Result<Event, LineFault>
+fn read_write_words(hex: &[u8], event: &mut Event) -> Result<(), LineFault>
     requires { 5 + length hex.now ≤ LINE_BYTES }
-    ensures reads { Reads (codes "g wd " ++ hex.now) result }
+    ensures reads { ReadsInto (codes "g wd " ++ hex.now) event.new result }
 {
     if hex.len() % 4 != 0 {
         return Err(LineFault::Form);
     }
     match bytes(hex) {
-        Some(bytes) => Ok(Event::WriteWords(bytes)),
-        None => Err(LineFault::Form),
+        Some(bytes) => *event = Event::WriteWords(bytes),
+        None => return Err(LineFault::Form),
     }
+    Ok(())
 }
 
-fn read_write_pointer(hex: &[u8]) -> Result<Event, LineFault>
+fn read_write_pointer(hex: &[u8], event: &mut Event) -> Result<(), LineFault>
     requires { 6 + length hex.now ≤ LINE_BYTES }
-    ensures reads { Reads (codes "g w32 " ++ hex.now) result }
+    ensures reads { ReadsInto (codes "g w32 " ++ hex.now) event.new result }
 {
     match long(hex) {
-        Some(pointer) => Ok(Event::WritePointer(pointer)),
-        None => Err(LineFault::Form),
+        Some(pointer) => *event = Event::WritePointer(pointer),
+        None => return Err(LineFault::Form),
     }
+    Ok(())
 }
 
-fn read_memory(rest: &[u8]) -> Result<Event, LineFault>
+fn read_memory(rest: &[u8], event: &mut Event) -> Result<(), LineFault>
     requires { 5 + length rest.now ≤ LINE_BYTES }
-    ensures reads { Reads (codes "g mr " ++ rest.now) result }
+    ensures reads { ReadsInto (codes "g mr " ++ rest.now) event.new result }
 {
     match address_and_rest(rest) {
-        Some((address, digits)) => read_count(address, digits),
+        Some((address, digits)) => read_count(address, digits, event),
         None => Err(LineFault::Form),
     }
 }
 
-fn read_count(address: u32, digits: &[u8]) -> Result<Event, LineFault>
+fn read_count(address: u32, digits: &[u8], event: &mut Event) -> Result<(), LineFault>
     requires { 14 + length digits.now ≤ LINE_BYTES }
-    ensures reads { Reads (codes "g mr " ++ hex_long address ++ 32 ∷ digits.now) result }
+    ensures reads { ReadsInto (codes "g mr " ++ hex_long address ++ 32 ∷ digits.now) event.new result }
 {
     match number(digits, 1, 2000) {
-        Ok(count) => Ok(Event::ReadMemory(address, count)),
-        Err(fault) => Err(fault),
+        Ok(count) => *event = Event::ReadMemory(address, count),
+        Err(fault) => return Err(fault),
     }
+    Ok(())
 }
 
-fn read_write_memory(rest: &[u8]) -> Result<Event, LineFault>
+fn read_write_memory(rest: &[u8], event: &mut Event) -> Result<(), LineFault>
     requires { 5 + length rest.now ≤ LINE_BYTES }
-    ensures reads { Reads (codes "g mw " ++ rest.now) result }
+    ensures reads { ReadsInto (codes "g mw " ++ rest.now) event.new result }
 {
     match address_and_rest(rest) {
-        Some((address, hex)) => read_bytes(address, hex),
+        Some((address, hex)) => read_bytes(address, hex, event),
         None => Err(LineFault::Form),
     }
 }
 
-fn read_bytes(address: u32, hex: &[u8]) -> Result<Event, LineFault>
+fn read_bytes(address: u32, hex: &[u8], event: &mut Event) -> Result<(), LineFault>
     requires { 14 + length hex.now ≤ LINE_BYTES }
-    ensures reads { Reads (codes "g mw " ++ hex_long address ++ 32 ∷ hex.now) result }
+    ensures reads { ReadsInto (codes "g mw " ++ hex_long address ++ 32 ∷ hex.now) event.new result }
 {
     match bytes(hex) {
-        Some(bytes) => Ok(Event::WriteMemory(address, bytes)),
-        None => Err(LineFault::Form),
+        Some(bytes) => *event = Event::WriteMemory(address, bytes),
+        None => return Err(LineFault::Form),
     }
+    Ok(())
 }
 
-fn read_destage(digits: &[u8]) -> Result<Event, LineFault>
+fn read_destage(digits: &[u8], event: &mut Event) -> Result<(), LineFault>
     requires { 6 + length digits.now ≤ LINE_BYTES }
-    ensures reads { Reads (codes "d put " ++ digits.now) result }
+    ensures reads { ReadsInto (codes "d put " ++ digits.now) event.new result }
 {
     match number(digits, 0, 63) {
-        Ok(place) => Ok(Event::Destage(place)),
-        Err(fault) => Err(fault),
+        Ok(place) => *event = Event::Destage(place),
+        Err(fault) => return Err(fault),
     }
+    Ok(())
 }
 
 /// A line says one event at most, so no two events have one text.
