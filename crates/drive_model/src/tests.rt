@@ -5,13 +5,15 @@ ghost use Rattle.drive_model.specs.Drive.{device_of};
 
 use crate::Drive;
 use crate::identify::identity;
+use crate::runs::bench::Bench;
+use ata_taskfile::Access::{Line, Read8, ReadPointer, ReadWord, Write8, WritePointer, WriteWord};
 use ata_taskfile::{Access, Answer, Ports, Reg, Step, Stepped, perform};
 use bm_dma::GuestMemory;
 use drive_store::{MemoryStore, Store};
 use std::alloc::{AllocError, Global};
 use std::test::Fail;
 
-// Sector 0 is all 0; sector 1 begins with 34h 12h and ends with CDh ABh.
+// A drive at power-on. Sector 0 is all 0; sector 1 begins with 34h 12h and ends with CDh ABh.
 fn two_sectors(alloc: Global) -> Result<Drive<MemoryStore>, AllocError>
     ensures { IfOk result (λ d. (device_of d).sectors ≡ 2) }
 {
@@ -25,97 +27,34 @@ fn two_sectors(alloc: Global) -> Result<Drive<MemoryStore>, AllocError>
     Drive::new(alloc, store)
 }
 
-// READ SECTOR(S), of up to 255 sectors.
-fn ask(drive: &mut Drive<MemoryStore>, first: u8, count: u8) {
-    drive.write8(Reg::Device, 0x40);
-    drive.write8(Reg::Count, count);
-    drive.write8(Reg::Low, first);
-    drive.write8(Reg::Mid, 0);
-    drive.write8(Reg::High, 0);
-    drive.write8(Reg::Status, 0x20);
-}
-
 #[test]
-fn a_sector_is_read_by_words(rt: HostRuntime) -> Result<(), Fail> {
+fn the_first_step_ends_power_on(rt: HostRuntime) -> Result<(), Fail> {
     let mut drive = two_sectors(rt.alloc())?;
     let mut memory = GuestMemory::new(rt.alloc(), 16)?;
     assert_eq!(rt; drive.read8(Reg::Status), 0x80);
     assert_eq!(rt; drive.step(Step::Good, &mut memory), Ok(Stepped::Changed));
     assert_eq!(rt; drive.read8(Reg::Status), 0x50);
     assert_eq!(rt; drive.step(Step::Good, &mut memory), Ok(Stepped::Nothing));
+    Ok(())
+}
 
-    ask(&mut drive, 1, 1);
-    assert_eq!(rt; drive.read8(Reg::Status), 0x80);
-    assert_eq!(rt; drive.read_word(), 0xffff);
-    assert_eq!(rt; drive.step(Step::Good, &mut memory), Ok(Stepped::Changed));
-    assert!(rt; drive.line());
-    assert_eq!(rt; drive.read8(Reg::Status), 0x58);
-    assert!(rt; !drive.line());
-
+#[test]
+fn a_sector_is_read_by_words(rt: HostRuntime) -> Result<(), Fail> {
+    let mut bench = Bench::new(rt.alloc(), two_sectors(rt.alloc())?)?;
+    bench.give_narrow(0x20, 1, 1);
+    assert_eq!(rt; bench.drive.read8(Reg::Status), 0x80);
+    assert_eq!(rt; bench.drive.read_word(), 0xffff);
+    assert!(rt; bench.steps_to(Step::Good, true, 0x58));
     for i in 0..256usize {
         let want = match i {
             0 => 0x1234,
             255 => 0xabcd,
             _ => 0,
         };
-        assert_eq!(rt; drive.read_word(), want, "word {i}");
+        assert_eq!(rt; bench.drive.read_word(), want, "word {i}");
     }
-    assert_eq!(rt; drive.read8(Reg::Status), 0x50);
-    assert_eq!(rt; drive.read_word(), 0xffff);
-    Ok(())
-}
-
-#[test]
-fn a_bad_step_shows_the_sector(rt: HostRuntime) -> Result<(), Fail> {
-    let mut drive = two_sectors(rt.alloc())?;
-    let mut memory = GuestMemory::new(rt.alloc(), 16)?;
-    let _changed = drive.step(Step::Good, &mut memory);
-    ask(&mut drive, 0, 2);
-    let _changed = drive.step(Step::Good, &mut memory);
-    for _ in 0..256usize {
-        drive.read_word();
-    }
-    assert_eq!(rt; drive.read8(Reg::Status), 0x80);
-    assert_eq!(rt; drive.step(Step::Bad, &mut memory), Ok(Stepped::Changed));
-    assert!(rt; drive.line());
-    let registers = [
-        (Reg::Alternate, 0x51),
-        (Reg::Error, 0x40),
-        (Reg::Count, 2),
-        (Reg::Low, 1),
-        (Reg::Mid, 0),
-        (Reg::High, 0),
-        (Reg::Device, 0x40),
-    ];
-    for (reg, want) in registers {
-        assert_eq!(rt; drive.read8(reg), want, "{reg:?}");
-    }
-    assert_eq!(rt; drive.step(Step::Bad, &mut memory), Ok(Stepped::Nothing));
-    Ok(())
-}
-
-#[test]
-fn a_reset_ends_the_command(rt: HostRuntime) -> Result<(), Fail> {
-    let mut drive = two_sectors(rt.alloc())?;
-    let mut memory = GuestMemory::new(rt.alloc(), 16)?;
-    let _changed = drive.step(Step::Good, &mut memory);
-    ask(&mut drive, 0, 1);
-    drive.write8(Reg::Alternate, 0x04);
-    assert_eq!(rt; drive.step(Step::Good, &mut memory), Ok(Stepped::Nothing));
-    assert_eq!(rt; drive.step(Step::Bad, &mut memory), Ok(Stepped::Nothing));
-    drive.write8(Reg::Alternate, 0);
-    assert_eq!(rt; drive.read8(Reg::Alternate), 0x80);
-    assert_eq!(rt; drive.step(Step::Good, &mut memory), Ok(Stepped::Changed));
-    assert!(rt; !drive.line());
-    for (reg, want) in [
-        (Reg::Status, 0x50),
-        (Reg::Error, 1),
-        (Reg::Count, 1),
-        (Reg::Low, 1),
-        (Reg::Device, 0),
-    ] {
-        assert_eq!(rt; drive.read8(reg), want, "{reg:?}");
-    }
+    assert_eq!(rt; bench.drive.read8(Reg::Status), 0x50);
+    assert_eq!(rt; bench.drive.read_word(), 0xffff);
     Ok(())
 }
 
@@ -129,104 +68,75 @@ fn a_durable_value_is_copied(rt: HostRuntime) -> Result<(), Fail> {
     Ok(())
 }
 
+// The bus master's registers are written in every phase; Data is not.
+const ACCESSES_IN_RESET: [(Access, Answer); 15] = [
+    (ReadWord, Answer::Word(0xffff)),
+    (WriteWord(0x1234), Answer::Nothing),
+    (Write8(Reg::Count, 9), Answer::Nothing),
+    (Read8(Reg::Count), Answer::Byte(0)),
+    (WritePointer(0x103), Answer::Nothing),
+    (ReadPointer, Answer::Long(0x100)),
+    (Write8(Reg::BusCommand, 0x09), Answer::Nothing),
+    (Read8(Reg::BusCommand), Answer::Byte(0x09)),
+    (Read8(Reg::BusStatus), Answer::Byte(0x01)),
+    (WritePointer(0x200), Answer::Nothing),
+    (ReadPointer, Answer::Long(0x100)),
+    (Write8(Reg::BusCommand, 0x00), Answer::Nothing),
+    (Read8(Reg::BusStatus), Answer::Byte(0x00)),
+    (Line, Answer::Byte(0)),
+    (Read8(Reg::Alternate), Answer::Byte(0x80)),
+];
+
 #[test]
 fn accesses_in_reset(rt: HostRuntime) -> Result<(), Fail> {
-    use Access::{Line, Read8, ReadPointer, ReadWord, Write8, WritePointer, WriteWord};
-
-    // The bus master's registers are written in every phase; Data is not.
-    let accesses = [
-        (ReadWord, Answer::Word(0xffff)),
-        (WriteWord(0x1234), Answer::Nothing),
-        (Write8(Reg::Count, 9), Answer::Nothing),
-        (Read8(Reg::Count), Answer::Byte(0)),
-        (WritePointer(0x103), Answer::Nothing),
-        (ReadPointer, Answer::Long(0x100)),
-        (Write8(Reg::BusCommand, 0x09), Answer::Nothing),
-        (Read8(Reg::BusCommand), Answer::Byte(0x09)),
-        (Read8(Reg::BusStatus), Answer::Byte(0x01)),
-        (WritePointer(0x200), Answer::Nothing),
-        (ReadPointer, Answer::Long(0x100)),
-        (Write8(Reg::BusCommand, 0x00), Answer::Nothing),
-        (Read8(Reg::BusStatus), Answer::Byte(0x00)),
-        (Line, Answer::Byte(0)),
-        (Read8(Reg::Alternate), Answer::Byte(0x80)),
-    ];
     let mut drive = two_sectors(rt.alloc())?;
-    for (access, want) in accesses {
+    for (access, want) in ACCESSES_IN_RESET {
         assert_eq!(rt; perform(&mut drive, &access), want, "{access:?}");
     }
     Ok(())
 }
+
+// The interrupt pends below nIEN. Written as 0 it lets the line rise, and again after it was 1.
+const ACCESSES_BELOW_NIEN: [(Access, Answer); 14] = [
+    (Line, Answer::Byte(0)),
+    (Read8(Reg::BusStatus), Answer::Byte(0x00)),
+    (Write8(Reg::Alternate, 0x00), Answer::Nothing),
+    (Line, Answer::Byte(1)),
+    (Read8(Reg::BusStatus), Answer::Byte(0x04)),
+    (Write8(Reg::BusStatus, 0x04), Answer::Nothing),
+    (Read8(Reg::BusStatus), Answer::Byte(0x00)),
+    (Line, Answer::Byte(1)),
+    (Write8(Reg::Alternate, 0x02), Answer::Nothing),
+    (Write8(Reg::Alternate, 0x80), Answer::Nothing),
+    (Read8(Reg::BusStatus), Answer::Byte(0x04)),
+    (WriteWord(0x1234), Answer::Nothing),
+    (Read8(Reg::Status), Answer::Byte(0x58)),
+    (Line, Answer::Byte(0)),
+];
 
 #[test]
 fn each_rise_of_the_line_shows(rt: HostRuntime) -> Result<(), Fail> {
-    use Access::{Line, Read8, Write8, WriteWord};
-
-    let mut drive = two_sectors(rt.alloc())?;
-    let mut memory = GuestMemory::new(rt.alloc(), 16)?;
-    let _changed = drive.step(Step::Good, &mut memory);
-    drive.write8(Reg::Alternate, 0x02);
-    ask(&mut drive, 0, 1);
-    let _changed = drive.step(Step::Good, &mut memory);
-
-    // The interrupt pends below nIEN. Written as 0 it lets the line rise, and again after it was 1.
-    let accesses = [
-        (Line, Answer::Byte(0)),
-        (Read8(Reg::BusStatus), Answer::Byte(0x00)),
-        (Write8(Reg::Alternate, 0x00), Answer::Nothing),
-        (Line, Answer::Byte(1)),
-        (Read8(Reg::BusStatus), Answer::Byte(0x04)),
-        (Write8(Reg::BusStatus, 0x04), Answer::Nothing),
-        (Read8(Reg::BusStatus), Answer::Byte(0x00)),
-        (Line, Answer::Byte(1)),
-        (Write8(Reg::Alternate, 0x02), Answer::Nothing),
-        (Write8(Reg::Alternate, 0x80), Answer::Nothing),
-        (Read8(Reg::BusStatus), Answer::Byte(0x04)),
-        (WriteWord(0x1234), Answer::Nothing),
-        (Read8(Reg::Status), Answer::Byte(0x58)),
-        (Line, Answer::Byte(0)),
-    ];
-    assert!(rt; drive.pending());
-    for (access, want) in accesses {
-        assert_eq!(rt; perform(&mut drive, &access), want, "{access:?}");
+    let mut bench = Bench::new(rt.alloc(), two_sectors(rt.alloc())?)?;
+    bench.drive.write8(Reg::Alternate, 0x02);
+    bench.give_narrow(0x20, 0, 1);
+    let _changed = bench.step(Step::Good);
+    assert!(rt; bench.drive.pending());
+    for (access, want) in ACCESSES_BELOW_NIEN {
+        assert_eq!(rt; perform(&mut bench.drive, &access), want, "{access:?}");
     }
-    assert!(rt; !drive.pending());
-    assert_eq!(rt; drive.read_word(), 0);
-    Ok(())
-}
-
-#[test]
-fn a_reset_ends_the_walk_of_its_command(rt: HostRuntime) -> Result<(), Fail> {
-    let mut drive = two_sectors(rt.alloc())?;
-    let mut memory = GuestMemory::new(rt.alloc(), 16)?;
-    let _changed = drive.step(Step::Good, &mut memory);
-    drive.write8(Reg::BusCommand, 0x01);
-
-    // READ SECTOR(S) moves nothing by the bus master, READ DMA does.
-    for (command, walks) in [(0x20, true), (0xc8, false)] {
-        drive.write8(Reg::Device, 0x40);
-        drive.write8(Reg::Status, command);
-        assert_eq!(rt; drive.read8(Reg::Status), 0x80, "{command:x}");
-        drive.write8(Reg::Alternate, 0x04);
-        assert_eq!(rt; drive.walking(), walks, "{command:x}");
-        assert_eq!(rt; drive.read8(Reg::BusStatus), 0x01, "{command:x}");
-        drive.write8(Reg::Alternate, 0x00);
-        let _changed = drive.step(Step::Good, &mut memory);
-        assert_eq!(rt; drive.read8(Reg::Status), 0x50, "{command:x}");
-    }
+    assert!(rt; !bench.drive.pending());
+    assert_eq!(rt; bench.drive.read_word(), 0);
     Ok(())
 }
 
 // The texts go in pairs, the first character high.
 #[test]
 fn words_of_identify(rt: HostRuntime) -> Result<(), Fail> {
-    let mut drive = two_sectors(rt.alloc())?;
-    let mut memory = GuestMemory::new(rt.alloc(), 16)?;
-    let _changed = drive.step(Step::Good, &mut memory);
-    drive.write8(Reg::Status, 0xec);
-    let _changed = drive.step(Step::Good, &mut memory);
+    let mut bench = Bench::new(rt.alloc(), two_sectors(rt.alloc())?)?;
+    bench.drive.write8(Reg::Status, 0xec);
+    let _changed = bench.step(Step::Good);
     for place in 0..256u16 {
-        assert_eq!(rt; drive.read_word(), word_wanted(place), "word {place}");
+        assert_eq!(rt; bench.drive.read_word(), word_wanted(place), "word {place}");
     }
     Ok(())
 }
