@@ -1,4 +1,5 @@
 pub mod ByRole
+pub mod Host
 pub mod MemoryHost
 pub mod NamedFiles
 pub mod Outside

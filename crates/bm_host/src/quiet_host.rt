@@ -22,11 +22,6 @@ pub struct QuietHost {
     looked: u64,
 }
 
-/// Over a quiet host no count of faults can have risen, whatever was done between two moments.
-pub fn no_count_of_a_quiet_host_rises(before: &QuietHost, after: &QuietHost)
-    ensures { NoCountRose (outside_of before.now) (outside_of after.now) }
-{}
-
 impl QuietHost {
     ghost use Rattle.std.specs.Prelude.{◌≡◌};
     ghost use Rattle.bm_host.specs.Tally.{IsFresh};
@@ -61,22 +56,14 @@ impl QuietHost {
 }
 
 impl Host for QuietHost {
-    ghost use Rattle.std.specs.Prelude.{◌≡◌, ◌≤◌, ◌<◌, ◌+◌, ◌++◌, length, replicate, IsOk, IfNone, None, OnOk, OnErr, IfOk, Ok, ⊤, option_map};
-    ghost use Rattle.bm_host.specs.Outside.{Counted, Becomes, SameBytes, SameElsewhere, IfTold, AppendsPrefix, Gives, Reads, Writes, begin_side, begun, bytes_at, looked_at, written_at};
+    ghost use Rattle.std.specs.Prelude.{◌≡◌, ◌≤◌, ◌+◌, length, replicate, IsOk, IfNone, None, Ok};
+    ghost use Rattle.bm_host.specs.Outside.{IfTold};
+    ghost use Rattle.bm_host.specs.Host.{Begins, ReadsAt, ReadsNext, TellsLength, WritesAt, WritesNext};
 
     ghost outside = { outside_of };
 
     fn begin(&mut self, role: Role, _name: &str) -> Result<(), Failed>
-        ensures cause { Counted (begin_side role) role
-            (outside_of self.old) (outside_of self.new) result }
-        ensures elsewhere { SameElsewhere role (outside_of self.old) (outside_of self.new) }
-        ensures looked { (outside_of self.new).looked ≡ (outside_of self.old).looked }
-        ensures told { OnOk result ((outside_of self.new).told role
-            ≡ option_map (begun role) ((outside_of self.old).told role)) }
-        ensures given { OnOk result ((outside_of self.new).given role ≡ 0) }
-        ensures unknown { Becomes (λ _ _. ⊤)
-            ((outside_of self.old).told role) ((outside_of self.new).told role) }
-
+        ensures host { Begins role (outside_of self.old) (outside_of self.new) result }
         ensures ok { IsOk result }
     {
         self.files.get_mut(role).begin(role);
@@ -84,12 +71,7 @@ impl Host for QuietHost {
     }
 
     fn length(&mut self, role: Role) -> Result<u64, Failed>
-        ensures cause { Counted Reads role (outside_of self.old) (outside_of self.new) result }
-        ensures bytes { SameBytes (outside_of self.old) (outside_of self.new) }
-        ensures looked { (outside_of self.new).looked ≡ (outside_of self.old).looked }
-        ensures length { IfOk result (λ n. IfTold ((outside_of self.old).told role)
-            (λ bytes. n ≡ length bytes)) }
-
+        ensures host { TellsLength role (outside_of self.old) (outside_of self.new) result }
         ensures ok { IsOk result }
         ensures untold { IfNone ((outside_of self.old).told role) (result ≡ Ok 0) }
     {
@@ -99,13 +81,8 @@ impl Host for QuietHost {
     fn read_at(&mut self, role: Role, place: u64, into: &mut [u8]) -> Result<(), Failed>
         requires { IfTold ((outside_of self.old).told role)
             (λ bytes. place + length into.old ≤ length bytes) }
-        ensures cause { Counted Reads role (outside_of self.old) (outside_of self.new) result }
-        ensures bytes { SameBytes (outside_of self.old) (outside_of self.new) }
-        ensures looked { (outside_of self.new).looked
-            ≡ looked_at role (outside_of self.old).looked (length into.old) }
-        ensures read { OnOk result (IfTold ((outside_of self.old).told role)
-            (λ bytes. into.new ≡ bytes_at place (length into.old) bytes)) }
-
+        ensures host { ReadsAt role place (length into.old)
+            (outside_of self.old) (outside_of self.new) into.new result }
         ensures ok { IsOk result }
         ensures untold { IfNone ((outside_of self.old).told role)
             (into.new ≡ replicate (length into.old) 0) }
@@ -116,20 +93,8 @@ impl Host for QuietHost {
     }
 
     fn read_next(&mut self, role: Role, into: &mut [u8]) -> Result<usize, Failed>
-        ensures cause { Counted Reads role (outside_of self.old) (outside_of self.new) result }
-        ensures elsewhere { SameElsewhere role (outside_of self.old) (outside_of self.new) }
-        ensures looked { (outside_of self.new).looked
-            ≡ looked_at role (outside_of self.old).looked (length into.old) }
-        ensures told { (outside_of self.new).told role ≡ (outside_of self.old).told role }
-        ensures room { IfOk result (λ n. n ≤ length into.old) }
-        ensures bytes { IfOk result (λ n. IfTold ((outside_of self.old).told role)
-            (λ bytes. Gives bytes ((outside_of self.old).given role)
-            (length into.old) n into.new)) }
-        ensures given { IfOk result (λ n. IfTold ((outside_of self.old).told role)
-            (λ _. (outside_of self.new).given role ≡ (outside_of self.old).given role + n)) }
-        ensures err { OnErr result
-            ((outside_of self.new).given role ≡ (outside_of self.old).given role) }
-
+        ensures host { ReadsNext role (length into.old)
+            (outside_of self.old) (outside_of self.new) into.new result }
         ensures ok { IsOk result }
         ensures untold { IfNone ((outside_of self.old).told role) (result ≡ Ok 0) }
     {
@@ -138,16 +103,8 @@ impl Host for QuietHost {
     }
 
     fn write_at(&mut self, role: Role, place: u64, from: &[u8]) -> Result<(), Failed>
-        ensures cause { Counted Writes role (outside_of self.old) (outside_of self.new) result }
-        ensures elsewhere { SameElsewhere role (outside_of self.old) (outside_of self.new) }
-        ensures looked { (outside_of self.new).looked ≡ (outside_of self.old).looked }
-        ensures told { OnOk result (Becomes (λ old new. new ≡ written_at place from.now old)
-            ((outside_of self.old).told role) ((outside_of self.new).told role)) }
-        ensures given { OnOk result
-            ((outside_of self.new).given role ≡ (outside_of self.old).given role) }
-        ensures unknown { Becomes (λ _ _. ⊤)
-            ((outside_of self.old).told role) ((outside_of self.new).told role) }
-
+        ensures host { WritesAt role place from.now
+            (outside_of self.old) (outside_of self.new) result }
         ensures ok { IsOk result }
         ensures forgotten { (outside_of self.new).told role ≡ None }
     {
@@ -156,15 +113,7 @@ impl Host for QuietHost {
     }
 
     fn write_next(&mut self, role: Role, from: &[u8]) -> Result<(), Failed>
-        ensures cause { Counted Writes role (outside_of self.old) (outside_of self.new) result }
-        ensures elsewhere { SameElsewhere role (outside_of self.old) (outside_of self.new) }
-        ensures looked { (outside_of self.new).looked ≡ (outside_of self.old).looked }
-        ensures told { OnOk result (Becomes (λ old new. new ≡ old ++ from.now)
-            ((outside_of self.old).told role) ((outside_of self.new).told role)) }
-        ensures given { (outside_of self.new).given role ≡ (outside_of self.old).given role }
-        ensures part { OnErr result (Becomes (AppendsPrefix from.now)
-            ((outside_of self.old).told role) ((outside_of self.new).told role)) }
-
+        ensures host { WritesNext role from.now (outside_of self.old) (outside_of self.new) result }
         ensures ok { IsOk result }
         ensures forgotten { (outside_of self.new).told role ≡ None }
     {
@@ -172,6 +121,11 @@ impl Host for QuietHost {
         Ok(())
     }
 }
+
+/// Over a quiet host no count of faults can have risen, whatever was done between two moments.
+pub fn no_count_of_a_quiet_host_rises(before: &QuietHost, after: &QuietHost)
+    ensures { NoCountRose (outside_of before.now) (outside_of after.now) }
+{}
 
 #[cfg(test)]
 mod tests;
