@@ -4,13 +4,15 @@
 //! `MemoryHost` one whose files are in memory and whose calls fail by their number, and `QuietHost` one that never
 //! fails.
 //!
-//! `specs/Outside.antt` says what a host holds and what a call may change, `specs/MemoryHost.antt` when a call of a
-//! `MemoryHost` fails, and `specs/QuietHost.antt` what a `QuietHost` tells. `proofs/OutsideLaws.antt` has the laws for
-//! those who make several calls.
+//! `specs/Outside.antt` says what a host holds and what a call may change, `specs/Host.antt` what each call does,
+//! `specs/MemoryHost.antt` when a call of a `MemoryHost` fails, and `specs/QuietHost.antt` what a `QuietHost` tells.
+//! `proofs/OutsideLaws.antt` has the laws for those who make several calls.
 
 #![tactic(auto)]
 
 mod by_role;
+#[cfg(test)]
+mod calls;
 mod file_host;
 mod host;
 mod memory_file;

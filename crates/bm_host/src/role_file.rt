@@ -10,14 +10,14 @@ use std::os::unix::fs::MetadataExt;
 
 /// Which file it is, whatever its name: the device that it is on, and its number there.
 #[derive(Clone, Copy, PartialEq, Eq)]
-pub struct Identity {
+pub(crate) struct Identity {
     device: u64,
     inode: u64,
 }
 
 impl Identity {
     /// Of an open file.
-    pub fn of(metadata: &Metadata) -> Identity {
+    pub(crate) fn of(metadata: &Metadata) -> Identity {
         Identity {
             device: metadata.dev(),
             inode: metadata.ino(),

@@ -1,33 +1,30 @@
 use super::{FileHost, ROLES};
+use crate::calls::Call::{Begin, Length, ReadAt, ReadNext, WriteAt, WriteNext};
+use crate::calls::{Call, first_wrong};
 use crate::{Failed, Host, Role};
 use std::fs;
 use std::test::Fail;
 
-// Reads in order go on where the last one stopped, whatever is read at a place between them.
+// Reads in order go on where the last one stopped, whatever is read at a place between them. The file is opened for
+// reading alone.
+const READS: [Call; 10] = [
+    Begin(Role::Disk, "host_reads/disk", Ok(())),
+    Length(Role::Disk, Ok(10)),
+    ReadNext(Role::Disk, Ok(4), b"0123"),
+    ReadAt(Role::Disk, 6, b"6789"),
+    ReadNext(Role::Disk, Ok(4), b"4567"),
+    ReadNext(Role::Disk, Ok(2), b"89.."),
+    ReadNext(Role::Disk, Ok(0), b"...."),
+    Begin(Role::Disk, "host_reads/disk", Ok(())),
+    ReadNext(Role::Disk, Ok(4), b"0123"),
+    WriteAt(Role::Disk, 0, b"x", Err(Failed)),
+];
+
 #[test]
 fn reads_of_a_file(rt: HostRuntime) -> Result<(), Fail> {
     fs::create_dir(&rt, "host_reads")?;
     fs::write(&rt, "host_reads/disk", b"0123456789")?;
-    let mut host = FileHost::new(&rt);
-    let mut into = [0; 4];
-    assert_eq!(rt; host.begin(Role::Disk, "host_reads/disk"), Ok(()));
-    assert_eq!(rt; host.length(Role::Disk), Ok(10));
-    assert_eq!(rt; host.read_next(Role::Disk, &mut into), Ok(4));
-    assert_eq!(rt; into, *b"0123");
-    assert_eq!(rt; host.read_at(Role::Disk, 6, &mut into), Ok(()));
-    assert_eq!(rt; into, *b"6789");
-    assert_eq!(rt; host.read_next(Role::Disk, &mut into), Ok(4));
-    assert_eq!(rt; into, *b"4567");
-    assert_eq!(rt; host.read_next(Role::Disk, &mut into), Ok(2));
-    assert_eq!(rt; host.read_next(Role::Disk, &mut into), Ok(0));
-    assert_eq!(rt; host.begin(Role::Disk, "host_reads/disk"), Ok(()));
-    assert_eq!(rt; host.read_next(Role::Disk, &mut into), Ok(4));
-    assert_eq!(rt; into, *b"0123");
-    assert_eq!(rt;
-        host.write_at(Role::Disk, 0, b"x"),
-        Err(Failed),
-        "opened for reading alone"
-    );
+    assert_eq!(rt; first_wrong(&mut FileHost::new(&rt), &READS), None);
     fs::remove_file(&rt, "host_reads/disk")?;
     fs::remove_dir(&rt, "host_reads")?;
     Ok(())
@@ -47,20 +44,20 @@ fn reads_past_the_end(rt: HostRuntime) -> Result<(), Fail> {
         (11, 0, Err(Failed)),
         (u64::MAX, 4, Err(Failed)),
     ];
+    let begin = Begin(Role::Image, "host_ends/image", Ok(()));
+    let next = ReadNext(Role::Image, Ok(4), b"0123");
     fs::create_dir(&rt, "host_ends")?;
     fs::write(&rt, "host_ends/image", b"0123456789")?;
     for (place, count, answer) in cases {
         let mut host = FileHost::new(&rt);
         let mut into = [0; 4];
-        assert_eq!(rt; host.begin(Role::Image, "host_ends/image"), Ok(()));
-        assert!(rt; count <= into.len());
+        assert!(rt; count <= into.len() && begin.goes(&mut host));
         assert_eq!(rt;
             host.read_at(Role::Image, place, &mut into[..count]),
             answer,
             "{count} bytes at {place}"
         );
-        assert_eq!(rt; host.read_next(Role::Image, &mut into), Ok(4));
-        assert_eq!(rt; into, *b"0123", "after {count} bytes at {place}");
+        assert!(rt; next.goes(&mut host), "after {count} bytes at {place}");
     }
     fs::remove_file(&rt, "host_ends/image")?;
     fs::remove_dir(&rt, "host_ends")?;
@@ -68,22 +65,23 @@ fn reads_past_the_end(rt: HostRuntime) -> Result<(), Fail> {
 }
 
 // Out is emptied first; zeros come between its end and a place; Report is made where it is missing.
+const WRITES: [Call; 9] = [
+    Begin(Role::Out, "host_writes/out", Ok(())),
+    WriteAt(Role::Out, 2, b"ab", Ok(())),
+    WriteNext(Role::Out, b"cd", Ok(())),
+    WriteAt(Role::Out, 3, b"B", Ok(())),
+    WriteNext(Role::Out, b"e", Ok(())),
+    WriteAt(Role::Out, 9, b"", Ok(())),
+    ReadAt(Role::Out, 0, b"\0\0aBcde\0\0"),
+    Begin(Role::Report, "host_writes/report", Ok(())),
+    WriteNext(Role::Report, b"line\n", Ok(())),
+];
+
 #[test]
 fn writes_of_files(rt: HostRuntime) -> Result<(), Fail> {
     fs::create_dir(&rt, "host_writes")?;
     fs::write(&rt, "host_writes/out", b"what was here before")?;
-    let mut host = FileHost::new(&rt);
-    assert_eq!(rt; host.begin(Role::Out, "host_writes/out"), Ok(()));
-    assert_eq!(rt; host.write_at(Role::Out, 2, b"ab"), Ok(()));
-    assert_eq!(rt; host.write_next(Role::Out, b"cd"), Ok(()));
-    assert_eq!(rt; host.write_at(Role::Out, 3, b"B"), Ok(()));
-    assert_eq!(rt; host.write_next(Role::Out, b"e"), Ok(()));
-    assert_eq!(rt; host.write_at(Role::Out, 9, &[]), Ok(()));
-    let mut into = [1; 9];
-    assert_eq!(rt; host.read_at(Role::Out, 0, &mut into), Ok(()));
-    assert_eq!(rt; into, *b"\0\0aBcde\0\0");
-    assert_eq!(rt; host.begin(Role::Report, "host_writes/report"), Ok(()));
-    assert_eq!(rt; host.write_next(Role::Report, b"line\n"), Ok(()));
+    assert_eq!(rt; first_wrong(&mut FileHost::new(&rt), &WRITES), None);
     assert_eq!(rt; fs::metadata(&rt, "host_writes/report")?.len(), 5);
     fs::remove_file(&rt, "host_writes/out")?;
     fs::remove_file(&rt, "host_writes/report")?;
@@ -96,15 +94,18 @@ fn writes_of_files(rt: HostRuntime) -> Result<(), Fail> {
 fn calls_before_begin(rt: HostRuntime) {
     let mut host = FileHost::new(&rt);
     for role in ROLES {
-        assert_eq!(rt; host.length(role), Err(Failed), "{role:?}");
-        assert_eq!(rt; host.read_at(role, 0, &mut []), Err(Failed), "{role:?}");
-        assert_eq!(rt; host.read_next(role, &mut []), Err(Failed), "{role:?}");
-        assert_eq!(rt; host.write_at(role, 0, &[]), Err(Failed), "{role:?}");
         let appended = match role {
             Role::Console => Ok(()),
             _ => Err(Failed),
         };
-        assert_eq!(rt; host.write_next(role, &[]), appended, "{role:?}");
+        let calls = [
+            Length(role, Err(Failed)),
+            ReadNext(role, Err(Failed), b"...."),
+            WriteAt(role, 0, b"", Err(Failed)),
+            WriteNext(role, b"", appended),
+        ];
+        assert_eq!(rt; first_wrong(&mut host, &calls), None);
+        assert_eq!(rt; host.read_at(role, 0, &mut []), Err(Failed), "{role:?}");
     }
 }
 
@@ -130,8 +131,8 @@ fn begins_that_fail(rt: HostRuntime) -> Result<(), Fail> {
     fs::create_dir(&rt, "host_begins")?;
     let mut host = FileHost::new(&rt);
     for (role, name) in cases {
-        assert_eq!(rt; host.begin(role, name), Err(Failed), "{role:?} at {name}");
-        assert_eq!(rt; host.length(role), Err(Failed), "{role:?} is not begun");
+        let calls = [Begin(role, name, Err(Failed)), Length(role, Err(Failed))];
+        assert_eq!(rt; first_wrong(&mut host, &calls), None);
     }
     fs::remove_dir(&rt, "host_begins")?;
     Ok(())
@@ -153,22 +154,16 @@ fn second_names_of_a_file(rt: HostRuntime) -> Result<(), Fail> {
     fs::write(&rt, "host_names/disk", b"0123456789")?;
     fs::hard_link(&rt, "host_names/disk", "host_names/link")?;
     for (first, second, name) in cases {
-        let mut host = FileHost::new(&rt);
-        assert_eq!(rt; host.begin(first, "host_names/disk"), Ok(()));
+        let calls = [
+            Begin(first, "host_names/disk", Ok(())),
+            Begin(second, name, Err(Failed)),
+            WriteNext(second, b"x", Err(Failed)),
+            Length(first, Ok(10)),
+        ];
         assert_eq!(rt;
-            host.begin(second, name),
-            Err(Failed),
-            "{second:?} at {name}"
-        );
-        assert_eq!(rt;
-            host.write_next(second, b"x"),
-            Err(Failed),
-            "{second:?} is not begun"
-        );
-        assert_eq!(rt;
-            host.length(first),
-            Ok(10),
-            "{first:?} behind {second:?} at {name}"
+            first_wrong(&mut FileHost::new(&rt), &calls),
+            None,
+            "{first:?} before {second:?} at {name}"
         );
     }
     fs::remove_file(&rt, "host_names/disk")?;
@@ -178,16 +173,19 @@ fn second_names_of_a_file(rt: HostRuntime) -> Result<(), Fail> {
 }
 
 // Out is no second Report, and Report keeps its line; begun again by its own name, Report is empty.
+const REPORT_AS_OUT: [Call; 6] = [
+    Begin(Role::Report, "host_report/report", Ok(())),
+    WriteNext(Role::Report, b"line\n", Ok(())),
+    Begin(Role::Out, "host_report/report", Err(Failed)),
+    Length(Role::Report, Ok(5)),
+    Begin(Role::Report, "host_report/report", Ok(())),
+    Length(Role::Report, Ok(0)),
+];
+
 #[test]
 fn report_as_out(rt: HostRuntime) -> Result<(), Fail> {
     fs::create_dir(&rt, "host_report")?;
-    let mut host = FileHost::new(&rt);
-    assert_eq!(rt; host.begin(Role::Report, "host_report/report"), Ok(()));
-    assert_eq!(rt; host.write_next(Role::Report, b"line\n"), Ok(()));
-    assert_eq!(rt; host.begin(Role::Out, "host_report/report"), Err(Failed));
-    assert_eq!(rt; host.length(Role::Report), Ok(5));
-    assert_eq!(rt; host.begin(Role::Report, "host_report/report"), Ok(()));
-    assert_eq!(rt; host.length(Role::Report), Ok(0));
+    assert_eq!(rt; first_wrong(&mut FileHost::new(&rt), &REPORT_AS_OUT), None);
     fs::remove_file(&rt, "host_report/report")?;
     fs::remove_dir(&rt, "host_report")?;
     Ok(())

@@ -2,54 +2,42 @@ ghost use Rattle.std.specs.Prelude.{◌≤◌, length};
 ghost use Rattle.bm_host.specs.Outside.{IfTold};
 
 use super::MemoryHost;
+use crate::calls::Call::{Begin, Length, ReadAt, ReadNext, WriteAt, WriteNext};
+use crate::calls::{Call, first_wrong, small_files};
 use crate::{Failed, Host, NoMemory, Role};
 use std::alloc::Global;
 use std::test::Fail;
 
 fn small_host(alloc: Global, failing: &[u32], room: u64) -> Result<MemoryHost, NoMemory> {
-    let mut files = Vec::new(alloc);
-    files.push((Role::Schedule, b"twice".to_vec(alloc)?))?;
-    files.push((Role::Disk, b"0123456789".to_vec(alloc)?))?;
-    files.push((Role::Report, b"old".to_vec(alloc)?))?;
-    files.push((Role::Schedule, b"g a\ne\n".to_vec(alloc)?))?;
-    MemoryHost::new(alloc, files, failing.to_vec(alloc)?, room)
+    MemoryHost::new(alloc, small_files(alloc)?, failing.to_vec(alloc)?, room)
 }
 
-// The next bytes, through the trait alone: how many, and the first four places.
-fn next_four<H: Host>(host: &mut H, role: Role) -> Result<(usize, [u8; 4]), Failed> {
-    let mut into = [b'.'; 4];
-    let count = host.read_next(role, &mut into)?;
-    Ok((count, into))
-}
+// Report is emptied, and what lies between an end and a place is zeros.
+const CALLS: [Call; 16] = [
+    Begin(Role::Disk, "any name", Ok(())),
+    Begin(Role::Schedule, "any name", Ok(())),
+    Begin(Role::Report, "any name", Ok(())),
+    Length(Role::Disk, Ok(10)),
+    Length(Role::Report, Ok(0)),
+    Length(Role::Image, Ok(0)),
+    ReadNext(Role::Schedule, Ok(4), b"g a\n"),
+    ReadNext(Role::Schedule, Ok(2), b"e\n.."),
+    ReadNext(Role::Schedule, Ok(0), b"...."),
+    Begin(Role::Schedule, "", Ok(())),
+    ReadNext(Role::Schedule, Ok(4), b"g a\n"),
+    ReadAt(Role::Disk, 7, b"789"),
+    WriteNext(Role::Report, b"ab", Ok(())),
+    WriteNext(Role::Report, b"c", Ok(())),
+    WriteAt(Role::Out, 2, b"xy", Ok(())),
+    WriteAt(Role::Out, 3, b"z!", Ok(())),
+];
 
-// The last Schedule counts, Report is emptied, and what lies between an end and a place is zeros.
 #[test]
 fn answers_of_each_call(rt: HostRuntime) -> Result<(), Fail> {
     let mut host = small_host(rt.alloc(), &[], 8)?;
     assert_eq!(rt; host.contents(Role::Report), b"old".as_slice());
-    for role in [Role::Disk, Role::Schedule, Role::Report] {
-        assert_eq!(rt; host.begin(role, "any name"), Ok(()));
-    }
-    assert_eq!(rt; host.length(Role::Disk), Ok(10));
-    assert_eq!(rt; host.length(Role::Report), Ok(0));
-    assert_eq!(rt; host.length(Role::Image), Ok(0));
-
-    assert_eq!(rt; next_four(&mut host, Role::Schedule), Ok((4, *b"g a\n")));
-    assert_eq!(rt; next_four(&mut host, Role::Schedule), Ok((2, *b"e\n..")));
-    assert_eq!(rt; next_four(&mut host, Role::Schedule), Ok((0, *b"....")));
-    assert_eq!(rt; host.begin(Role::Schedule, ""), Ok(()));
-    assert_eq!(rt; next_four(&mut host, Role::Schedule), Ok((4, *b"g a\n")));
-
-    let mut into = [0; 3];
-    assert!(rt; host.contents(Role::Disk).len() == 10);
-    assert_eq!(rt; host.read_at(Role::Disk, 7, &mut into), Ok(()));
-    assert_eq!(rt; into, *b"789");
-
-    assert_eq!(rt; host.write_next(Role::Report, b"ab"), Ok(()));
-    assert_eq!(rt; host.write_next(Role::Report, b"c"), Ok(()));
+    assert_eq!(rt; first_wrong(&mut host, &CALLS), None);
     assert_eq!(rt; host.contents(Role::Report), b"abc".as_slice());
-    assert_eq!(rt; host.write_at(Role::Out, 2, b"xy"), Ok(()));
-    assert_eq!(rt; host.write_at(Role::Out, 3, b"z!"), Ok(()));
     assert_eq!(rt; host.contents(Role::Out), b"\0\0xz!".as_slice());
     Ok(())
 }
@@ -87,19 +75,23 @@ fn calls_fail_by_number(rt: HostRuntime) -> Result<(), Fail> {
 }
 
 // Report, Out and Console hold up to 4 bytes, and Disk its 10. What doesn't fit changes nothing.
+const WRITES: [Call; 8] = [
+    WriteNext(Role::Report, b"x", Ok(())),
+    WriteNext(Role::Report, b"y", Err(Failed)),
+    WriteAt(Role::Out, 3, b"ab", Err(Failed)),
+    WriteAt(Role::Out, u64::MAX, b"ab", Err(Failed)),
+    WriteAt(Role::Out, 2, b"ab", Ok(())),
+    WriteAt(Role::Disk, 9, b"ab", Err(Failed)),
+    WriteAt(Role::Disk, 8, b"ab", Ok(())),
+    WriteNext(Role::Image, b"a", Err(Failed)),
+];
+
 #[test]
 fn writes_keep_to_the_room(rt: HostRuntime) -> Result<(), Fail> {
     let mut host = small_host(rt.alloc(), &[], 4)?;
-    assert_eq!(rt; host.write_next(Role::Report, b"x"), Ok(()));
-    assert_eq!(rt; host.write_next(Role::Report, b"y"), Err(Failed));
+    assert_eq!(rt; first_wrong(&mut host, &WRITES), None);
     assert_eq!(rt; host.contents(Role::Report), b"oldx".as_slice());
-    assert_eq!(rt; host.write_at(Role::Out, 3, b"ab"), Err(Failed));
-    assert_eq!(rt; host.write_at(Role::Out, u64::MAX, b"ab"), Err(Failed));
-    assert_eq!(rt; host.write_at(Role::Out, 2, b"ab"), Ok(()));
     assert_eq!(rt; host.contents(Role::Out), b"\0\0ab".as_slice());
-    assert_eq!(rt; host.write_at(Role::Disk, 9, b"ab"), Err(Failed));
-    assert_eq!(rt; host.write_at(Role::Disk, 8, b"ab"), Ok(()));
     assert_eq!(rt; host.contents(Role::Disk), b"01234567ab".as_slice());
-    assert_eq!(rt; host.write_next(Role::Image, b"a"), Err(Failed));
     Ok(())
 }

@@ -1,74 +1,63 @@
 use super::QuietHost;
-use crate::{Failed, Host, Role};
-use std::alloc::{AllocError, Global};
+use crate::calls::Call::{Begin, Length, ReadAt, ReadNext, WriteNext};
+use crate::calls::{Call, first_wrong, small_files};
+use crate::{Host, Role};
 use std::test::Fail;
 
-fn small_host(alloc: Global) -> Result<QuietHost, AllocError> {
-    let mut files = Vec::new(alloc);
-    files.push((Role::Schedule, b"twice".to_vec(alloc)?))?;
-    files.push((Role::Disk, b"0123456789".to_vec(alloc)?))?;
-    files.push((Role::Report, b"old".to_vec(alloc)?))?;
-    files.push((Role::Schedule, b"g a\ne\n".to_vec(alloc)?))?;
-    Ok(QuietHost::new(files))
-}
+// Image has no file, and Report isn't told.
+const TOLD: [Call; 10] = [
+    Begin(Role::Image, "any name", Ok(())),
+    Length(Role::Image, Ok(0)),
+    Begin(Role::Disk, "any name", Ok(())),
+    Length(Role::Disk, Ok(10)),
+    ReadAt(Role::Disk, 6, b"6789"),
+    Begin(Role::Schedule, "any name", Ok(())),
+    Length(Role::Schedule, Ok(6)),
+    ReadAt(Role::Schedule, 2, b"a\ne\n"),
+    Begin(Role::Report, "any name", Ok(())),
+    Length(Role::Report, Ok(0)),
+];
 
-// Through the trait alone: the number of bytes, and the last four of them.
-fn last_four<H: Host>(host: &mut H, role: Role) -> Result<(u64, [u8; 4]), Failed> {
-    let length = host.length(role)?;
-    let mut into = [b'.'; 4];
-    if let Some(place) = length.checked_sub(4) {
-        host.read_at(role, place, &mut into)?;
-    }
-    Ok((length, into))
-}
+// A written role has no bytes any more.
+const WRITTEN: [Call; 8] = [
+    WriteNext(Role::Image, b"ab", Ok(())),
+    Length(Role::Image, Ok(0)),
+    WriteNext(Role::Disk, b"ab", Ok(())),
+    Length(Role::Disk, Ok(0)),
+    WriteNext(Role::Schedule, b"ab", Ok(())),
+    Length(Role::Schedule, Ok(0)),
+    WriteNext(Role::Report, b"ab", Ok(())),
+    Length(Role::Report, Ok(0)),
+];
 
-// Through the trait alone: how many bytes come next, and the first four places.
-fn next_four<H: Host>(host: &mut H, role: Role) -> Result<(usize, [u8; 4]), Failed> {
-    let mut into = [b'.'; 4];
-    let count = host.read_next(role, &mut into)?;
-    Ok((count, into))
-}
-
-// The last Schedule counts, Image has no file, and Report isn't told. A written role has no bytes any more.
 #[test]
 fn what_is_told(rt: HostRuntime) -> Result<(), Fail> {
-    let mut host = small_host(rt.alloc())?;
-    let cases = [
-        (Role::Image, 0, *b"...."),
-        (Role::Disk, 10, *b"6789"),
-        (Role::Schedule, 6, *b"a\ne\n"),
-        (Role::Report, 0, *b"...."),
-    ];
-    for (role, length, last) in cases {
-        assert_eq!(rt; host.begin(role, "any name"), Ok(()));
-        assert_eq!(rt; last_four(&mut host, role), Ok((length, last)), "{role:?}");
-        assert_eq!(rt; host.write_next(role, b"ab"), Ok(()));
-        assert_eq!(rt;
-            last_four(&mut host, role),
-            Ok((0, *b"....")),
-            "{role:?} is written"
-        );
-    }
+    let mut host = QuietHost::new(small_files(rt.alloc())?);
+    assert_eq!(rt; first_wrong(&mut host, &TOLD), None);
+    assert_eq!(rt; first_wrong(&mut host, &WRITTEN), None);
     Ok(())
 }
 
 // Reads in order, and again from the start after a `begin`.
+const IN_ORDER: [Call; 5] = [
+    ReadNext(Role::Schedule, Ok(4), b"g a\n"),
+    ReadNext(Role::Schedule, Ok(2), b"e\n.."),
+    ReadNext(Role::Schedule, Ok(0), b"...."),
+    Begin(Role::Schedule, "", Ok(())),
+    ReadNext(Role::Schedule, Ok(4), b"g a\n"),
+];
+
 #[test]
 fn reads_in_order(rt: HostRuntime) -> Result<(), Fail> {
-    let mut host = small_host(rt.alloc())?;
-    let cases = [(4, *b"g a\n"), (2, *b"e\n.."), (0, *b"....")];
-    for (count, bytes) in cases {
-        assert_eq!(rt; next_four(&mut host, Role::Schedule), Ok((count, bytes)));
-    }
-    assert_eq!(rt; host.begin(Role::Schedule, ""), Ok(()));
-    assert_eq!(rt; next_four(&mut host, Role::Schedule), Ok((4, *b"g a\n")));
+    let mut host = QuietHost::new(small_files(rt.alloc())?);
+    assert_eq!(rt; first_wrong(&mut host, &IN_ORDER), None);
     Ok(())
 }
 
 // What is written is let go, and reads of the role give zeros.
 #[test]
 fn zeros_of_a_written_role(rt: HostRuntime) -> Result<(), Fail> {
-    let mut host = small_host(rt.alloc())?;
+    let mut host = QuietHost::new(small_files(rt.alloc())?);
     let mut into = [b'.'; 4];
     assert_eq!(rt; host.write_at(Role::Disk, 6, b"ab"), Ok(()));
     assert_eq!(rt; host.read_at(Role::Disk, 6, &mut into), Ok(()));

@@ -74,7 +74,9 @@ fn slow_file(bytes: Vec<u8>, most: usize) -> RoleFile<Slow> {
     RoleFile::new(file, identity, SeekFrom::Start(0))
 }
 
-// A file that takes nothing fails a write of bytes, and not one of none; one that takes a byte at a time gets all.
+// How many bytes the file takes at a time, what is appended, and written at its end, whether that goes well, and what
+// it holds. A file that takes nothing fails a write of bytes, and not one of none; one that takes a byte at a time gets
+// all.
 #[test]
 fn writes_in_pieces(rt: HostRuntime) -> Result<(), Fail> {
     let cases = [
@@ -84,34 +86,22 @@ fn writes_in_pieces(rt: HostRuntime) -> Result<(), Fail> {
         (4, b"ab".as_slice(), true, b"0123ab".as_slice()),
     ];
     for (most, from, taken, held) in cases {
-        let mut file = slow_file(b"0123".to_vec(rt.alloc())?, most);
-        assert_eq!(rt;
-            file.write_next(from).is_ok(),
-            taken,
-            "{most} at a time, appended"
-        );
-        assert_eq!(rt;
-            file.file.bytes.as_slice(),
-            held,
-            "{most} at a time, appended"
-        );
-        let mut file = slow_file(b"0123".to_vec(rt.alloc())?, most);
-        assert_eq!(rt;
-            file.write_at(4, from).is_ok(),
-            taken,
-            "{most} at a time, at the end"
-        );
-        assert_eq!(rt;
-            file.file.bytes.as_slice(),
-            held,
-            "{most} at a time, at the end"
-        );
+        let mut appended = slow_file(b"0123".to_vec(rt.alloc())?, most);
+        let mut placed = slow_file(b"0123".to_vec(rt.alloc())?, most);
+        let answers = [
+            appended.write_next(from).is_ok(),
+            placed.write_at(4, from).is_ok(),
+        ];
+        assert_eq!(rt; answers, [taken; 2], "{most} at a time");
+        for file in [&appended, &placed] {
+            assert_eq!(rt; file.file.bytes.as_slice(), held, "{most} at a time");
+        }
     }
     Ok(())
 }
 
-// A read at a place fills all, in however many pieces, and an end inside is an error. After either, the next bytes are
-// the first.
+// How many bytes the file gives at a time, the place from which 3 of its 4 bytes are read, and whether that fills all.
+// An end inside is an error. After either, the next bytes are the first.
 #[test]
 fn reads_in_pieces(rt: HostRuntime) -> Result<(), Fail> {
     let cases = [
