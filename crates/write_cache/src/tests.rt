@@ -70,49 +70,19 @@ fn newest_of_each_sector(rt: HostRuntime) -> Result<(), Fail> {
 // The place that is taken, the entry there, and those that are left, the oldest first.
 #[test]
 fn older_ones_of_the_sector_go_too(rt: HostRuntime) -> Result<(), Fail> {
-    let cases = [
-        (
-            0,
-            Some((5, 1)),
-            [Some((7, 2)), Some((5, 3)), Some((9, 4)), Some((5, 5)), None],
-        ),
-        (
-            1,
-            Some((7, 2)),
-            [Some((5, 1)), Some((5, 3)), Some((9, 4)), Some((5, 5)), None],
-        ),
-        (
-            2,
-            Some((5, 3)),
-            [Some((7, 2)), Some((9, 4)), Some((5, 5)), None, None],
-        ),
-        (
-            3,
-            Some((9, 4)),
-            [Some((5, 1)), Some((7, 2)), Some((5, 3)), Some((5, 5)), None],
-        ),
-        (
-            4,
-            Some((5, 5)),
-            [Some((7, 2)), Some((9, 4)), None, None, None],
-        ),
-        (
-            5,
-            None,
-            [
-                Some((5, 1)),
-                Some((7, 2)),
-                Some((5, 3)),
-                Some((9, 4)),
-                Some((5, 5)),
-            ],
-        ),
+    let cases: [(u32, Option<(u64, u8)>, &[(u64, u8)]); 6] = [
+        (0, Some((5, 1)), &[(7, 2), (5, 3), (9, 4), (5, 5)]),
+        (1, Some((7, 2)), &[(5, 1), (5, 3), (9, 4), (5, 5)]),
+        (2, Some((5, 3)), &[(7, 2), (9, 4), (5, 5)]),
+        (3, Some((9, 4)), &[(5, 1), (7, 2), (5, 3), (5, 5)]),
+        (4, Some((5, 5)), &[(7, 2), (9, 4)]),
+        (5, None, &[(5, 1), (7, 2), (5, 3), (9, 4), (5, 5)]),
     ];
     for (k, taken, left) in cases {
         let mut cache = five_entries(rt.alloc())?;
         assert_eq!(rt; cache.take(k), taken.map(entry), "place {k}");
-        for next in left {
-            assert_eq!(rt; cache.first(), next.map(entry), "after place {k}");
+        for &next in left {
+            assert_eq!(rt; cache.first(), Some(entry(next)), "after place {k}");
         }
         assert_eq!(rt; cache.first(), None, "after place {k}");
     }
