@@ -1,3 +1,2 @@
 pub mod Dummy
 pub mod Flight
-pub mod SmallDrive

@@ -9,10 +9,6 @@
 mod dummy;
 mod ending;
 mod laws;
-#[cfg(test)]
-mod small_drive;
-#[cfg(test)]
-mod tests;
 
 pub use dummy::Dummy;
 pub use laws::{

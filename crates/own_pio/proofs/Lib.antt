@@ -4,4 +4,3 @@ pub mod Words
 pub mod Written
 pub mod Steps
 pub mod Stored
-pub mod Small

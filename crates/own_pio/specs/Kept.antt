@@ -1,9 +1,9 @@
 -- What an own command makes of the sectors, by where it stands.
-use Rattle.std.specs.Prelude.{◌≡◌, ℕ, Bool, true, false, not, ◌==◌, ◌+◌, ◌-◌, ◌*◌, zero, suc, List, [], slice_index_or}
+use Rattle.std.specs.Prelude.{◌≡◌, ℕ, Bool, true, false, not, ◌==◌, ◌+◌, ◌-◌, ◌*◌, zero, suc, List}
 use Rattle.ata_taskfile.specs.declared.Phase.{Phase}
 use Rattle.ata_taskfile.specs.declared.Phase.TheVariants.{Reset, Idle, Busy, Ready}
-use Rattle.ata_taskfile.specs.Device.{Device, Cell}
-use Rattle.plain_drive.specs.Plain.{appended, all_flushed, current, settled, words_of}
+use Rattle.ata_taskfile.specs.Device.{Device, Cell, powered_on}
+use Rattle.plain_drive.specs.Plain.{appended, all_flushed, sector_value, words_of}
 use Rattle.plain_drive.specs.Words.{bytes_of}
 use Rattle.own_pio.specs.declared.job.OwnJob.{OwnJob}
 use Rattle.own_pio.specs.declared.job.OwnJob.TheVariants.{Read, Write, Flush}
@@ -49,14 +49,10 @@ holds_block (Busy order position) (Write first count) done = not (done == 0)
 holds_block (Busy order position) Flush done = false
 holds_block (Ready order position left) job done = false
 
--- the current value of a sector of a store
-abbrev pub value_in : ℕ → List Cell → List ℕ
-value_in s cells = current (slice_index_or cells s (settled []))
-
--- bytes after so many sectors of a store were read into them, from the first one on
+-- bytes after so many sectors of a store were read into them, from the first one on; the device's registers don't matter
 abbrev pub read_over : ℕ → ℕ → List Cell → List ℕ → List ℕ
 read_over first zero cells bytes = bytes
-read_over first (suc n) cells bytes = put_over (512 * n) (bytes_of (words_of (value_in (first + n) cells))) (read_over first n cells bytes)
+read_over first (suc n) cells bytes = put_over (512 * n) (bytes_of (words_of (sector_value (first + n) (powered_on cells 0)))) (read_over first n cells bytes)
 
 -- the bytes of a job of which so many blocks went, by those at its begin
 abbrev pub bytes_in : OwnJob → ℕ → List Cell → List ℕ → List ℕ

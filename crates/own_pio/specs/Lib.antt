@@ -5,4 +5,3 @@ pub mod Named
 pub mod Moving
 pub mod Poll
 pub mod Kept
-pub mod Small

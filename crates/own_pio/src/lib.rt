@@ -11,10 +11,6 @@ mod laws;
 mod moving;
 mod own;
 mod polling;
-#[cfg(test)]
-mod small_drive;
-#[cfg(test)]
-mod tests;
 
 pub use commands::command_read;
 pub use job::OwnJob;

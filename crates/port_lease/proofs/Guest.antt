@@ -2,6 +2,7 @@
 use Rattle.std.proofs.Common.{◌≡◌, ℕ, Bool, false, ◌||◌, if◌then◌else◌, refl, ap, ◌∙◌, arith}
 use Rattle.ata_taskfile.specs.declared.Reg.{Reg}
 use Rattle.ata_taskfile.specs.declared.Reg.TheVariants as reg
+use Rattle.ata_taskfile.specs.declared.Access.TheVariants as access
 use Rattle.ata_taskfile.specs.declared.Phase.{Phase}
 use Rattle.ata_taskfile.specs.declared.Wrote.{Wrote}
 use Rattle.ata_taskfile.specs.declared.Wrote.TheVariants.{Stored, Ignored, Command, ResetBegun}
@@ -11,7 +12,7 @@ use Rattle.ata_taskfile.specs.TaskFile.{line, after_read, wrote, after_write}
 use Rattle.ata_taskfile.specs.Bus.{raised, command_written, status_written}
 use Rattle.ata_taskfile.specs.Device.{Device, is_moving, bus_in_reset, in_hand, after_read8, after_wrote, after_write8}
 use Rattle.port_lease.specs.declared.view.View.{View}
-use Rattle.port_lease.specs.View.{uses_bus, IsGiven, file_kept, bus_kept, reached_by_write}
+use Rattle.port_lease.specs.View.{uses_bus, IsGiven, file_kept, bus_kept, reached}
 use Rattle.port_lease.specs.Seen.{bus_beside, on_guest_side}
 
 -- the bus master on the guest's side, by whether the command given uses the drive's
@@ -57,7 +58,7 @@ kept-phase r x phase f = grind arith
 
 -- any write
 write-seen : (r : Reg) (x : ℕ) (v : View) (d : Device) → IsGiven v d
-    → on_guest_side (record v { bus = bus_kept r x v }) (reached_by_write v r x d) ≡ after_write8 r x (on_guest_side v d)
+    → on_guest_side (record v { bus = bus_kept r x v }) (reached v (access.Write8 r x) d) ≡ after_write8 r x (on_guest_side v d)
 unfolding seen
 write-seen reg.Error x v d given = wrote-seen (wrote reg.Error x d.file) (after_write reg.Error x d.file) v d given
 write-seen reg.Count x v d given = wrote-seen (wrote reg.Count x d.file) (after_write reg.Count x d.file) v d given
@@ -74,8 +75,8 @@ on-same : (v v' : View) (d : Device) → v'.file.phase ≡ v.file.phase → v'.b
 unfolding seen
 on-same v v' d phase bus = ap (λ p. record d { bus = seen (is_moving p) v'.bus d.bus }) phase ∙ ap (λ b. record d { bus = seen (uses_bus v) b d.bus }) bus
 
-pub write_seen : (r : Reg) (x : ℕ) (v w : View) (d e : Device) → IsGiven v d → e ≡ reached_by_write v r x d
+pub write_seen : (r : Reg) (x : ℕ) (v w : View) (d e : Device) → IsGiven v d → e ≡ reached v (access.Write8 r x) d
     → w.file ≡ file_kept r x d.file.phase v.file → w.bus ≡ bus_kept r x v → on_guest_side w e ≡ after_write8 r x (on_guest_side v d)
 write_seen r x v w d e given is file bus =
     let phase : w.file.phase ≡ v.file.phase = ap (λ f. f.phase) file ∙ kept-phase r x d.file.phase v.file in
-    rw is (on-same (record v { bus = bus_kept r x v }) w (reached_by_write v r x d) phase bus ∙ write-seen r x v d given)
+    rw is (on-same (record v { bus = bus_kept r x v }) w (reached v (access.Write8 r x) d) phase bus ∙ write-seen r x v d given)

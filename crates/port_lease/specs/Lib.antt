@@ -6,4 +6,3 @@ pub mod Sides
 pub mod Handover
 pub mod Lending
 pub mod Writing
-pub mod Small

@@ -12,7 +12,7 @@ use Rattle.ata_taskfile.specs.TaskFile.{has_bit, is_at_work, hob_cleared}
 use Rattle.ata_taskfile.specs.Bus.{bus_written, pointer_written}
 use Rattle.ata_taskfile.specs.Access.{accessed}
 use Rattle.ata_taskfile.specs.Lawful.{HasLawfulRegisters, is_in_reset}
-use Rattle.ata_taskfile.specs.Device.{Device, is_moving, after_write8}
+use Rattle.ata_taskfile.specs.Device.{Device, is_moving}
 use Rattle.port_lease.specs.declared.view.View.{View}
 
 -- a view as every device is
@@ -113,7 +113,3 @@ bus_kept r value v = if is_of_walk r && uses_bus v then v.bus else bus_written r
 -- and after a write of the pointer
 abbrev pub pointer_kept : ℕ → View → Bus
 pointer_kept value v = if uses_bus v then v.bus else pointer_written value v.bus
-
--- the drive after a write to a register
-abbrev pub reached_by_write : View → Reg → ℕ → Device → Device
-reached_by_write v r value d = if is_of_walk r && not (uses_bus v) then d else after_write8 r value d

@@ -22,7 +22,8 @@ impl Gone {
         perform(ports, access)
     }
 
-    /// Ends the state at a power cut, after which the drive is the monitor's by `power_on`.
+    /// Ends the state at a power cut, after which the drive is the monitor's by `power_on`. It does nothing but use the
+    /// state up.
     pub fn end(self) {
         let Gone { left: () } = self;
     }

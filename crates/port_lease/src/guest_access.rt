@@ -5,7 +5,7 @@ ghost use Rattle.ata_taskfile.specs.Access.{answer_to, accessed};
 ghost use Rattle.ata_taskfile.specs.TaskFile.{is_of_bus, is_at_work, selects_absent};
 ghost use Rattle.ata_taskfile.specs.Device.{byte_read, after_read8, after_write8, pointer_read};
 ghost use Rattle.port_lease.specs.Quiet.{IsQuiet};
-ghost use Rattle.port_lease.specs.View.{IsKept, IsGiven, is_of_command, is_command, reached, reached_by_write, file_kept, bus_kept, pointer_kept, control_kept, with_kept};
+ghost use Rattle.port_lease.specs.View.{IsKept, IsGiven, is_of_command, is_command, reached, file_kept, bus_kept, pointer_kept, control_kept, with_kept};
 ghost use Rattle.port_lease.specs.Seen.{on_guest_side};
 ghost use Rattle.port_lease.specs.Sides.{view_kept};
 ghost use Rattle.port_lease.specs.Writing.{is_plain_register, plainly_written, asked};
@@ -57,7 +57,7 @@ impl GuestSide {
     fn write8<P: Ports>(&mut self, ports: &mut P, reg: Reg, v: u8)
         requires { is_of_command reg ≡ false }
         ensures drive { P.device ports.new
-            ≡ reached_by_write (view_kept self.old) reg v (P.device ports.old) }
+            ≡ reached (view_kept self.old) (Access.Write8 reg v) (P.device ports.old) }
         ensures file { (view_kept self.new).file
             ≡ file_kept reg v (P.device ports.old).file.phase (view_kept self.old).file }
         ensures bus { (view_kept self.new).bus ≡ bus_kept reg v (view_kept self.old) }
@@ -133,7 +133,8 @@ fn read_pointer<P: Ports>(view: &View, ports: &P) -> u32
 // Error and interrupt bit are cleared in both.
 fn write_bus<P: Ports>(view: &mut View, ports: &mut P, reg: Reg, v: u8)
     requires { is_of_bus reg ≡ true }
-    ensures drive { P.device ports.new ≡ reached_by_write view.old reg v (P.device ports.old) }
+    ensures drive { P.device ports.new
+        ≡ reached view.old (Access.Write8 reg v) (P.device ports.old) }
     ensures file { view.new.file ≡ view.old.file }
     ensures bus { view.new.bus ≡ bus_kept reg v view.old }
     ensures rest { P.rest ports.new ≡ P.rest ports.old }

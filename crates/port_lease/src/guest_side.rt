@@ -24,7 +24,8 @@ impl GuestSide {
         &self.view
     }
 
-    /// Ends the side at a power cut, after which the drive is the monitor's by `power_on`.
+    /// Ends the side at a power cut, after which the drive is the monitor's by `power_on`. It does nothing but use the
+    /// side up.
     pub fn end(self) {
         let GuestSide { view: _ } = self;
     }

@@ -15,12 +15,8 @@ mod guest_side;
 mod laws;
 mod monitor_side;
 mod reading;
-#[cfg(test)]
-mod register_file;
 mod removing;
 mod taking;
-#[cfg(test)]
-mod tests;
 mod view;
 mod writing;
 

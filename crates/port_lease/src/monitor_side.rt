@@ -73,7 +73,8 @@ impl MonitorSide {
         self.own = false;
     }
 
-    /// Ends the side at a power cut, after which the drive is the monitor's by `power_on`.
+    /// Ends the side at a power cut, after which the drive is the monitor's by `power_on`. It does nothing but use the
+    /// side up.
     pub fn end(self) {
         let MonitorSide { view: _, own: _ } = self;
     }

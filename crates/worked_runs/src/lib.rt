@@ -1,8 +1,8 @@
 //! Whole runs of `bmcast`, nearly all over files in memory: what it writes, and how it ends.
 //!
 //! It has tests alone. Start with `hosts`, the files and words that the runs have in common; then `done` for runs
-//! that are done, `drive` for the kinds of events, `refusals` for files, words and lines that are refused, `faults` for hosts that fail, and `files` for
-//! real files. The values are by hand from `docs/formats.md` and `docs/drive.md`.
+//! that are done, `drive` for the kinds of events, `refusals` for files, words and lines that are refused, `faults` for
+//! hosts that fail, and `files` for real files. The values are by hand from `docs/formats.md` and `docs/drive.md`.
 
 #![tactic(auto)]
 
@@ -16,7 +16,5 @@ mod faults;
 mod files;
 #[cfg(test)]
 mod hosts;
-#[cfg(test)]
-mod own_commands;
 #[cfg(test)]
 mod refusals;
