@@ -5,27 +5,7 @@ use Rattle.std.proofs.Math.ListN.{set}
 use Rattle.plain_drive.specs.Plain.{words_of}
 use Rattle.plain_drive.specs.Words.{bytes_of}
 use Rattle.plain_drive.specs.Identify.{identity_front, identity_word}
-
--- there are half as many words as bytes
-pub length_words : (n : ℕ) (bytes : List ℕ) → length bytes ≡ n + n → length (words_of bytes) ≡ n
-length_words zero [] e = refl
-length_words (suc n) [] e = absurd (omega arith)
-length_words n (x ∷ []) e = absurd (omega arith)
-length_words zero (x ∷ y ∷ rest) e = absurd (omega arith)
-length_words (suc n) (x ∷ y ∷ rest) e = ap suc (length_words n rest (omega arith))
-
--- a word is made of its two bytes
-pub word_at : (n i : ℕ) (bytes : List ℕ) → length bytes ≡ n + n → i < n
-    → get_or (words_of bytes) i 0 ≡ get_or bytes (2 * i) 0 + 256 * get_or bytes (2 * i + 1) 0
-word_at zero i bytes e below = absurd (omega arith)
-word_at (suc n) i [] e below = absurd (omega arith)
-word_at (suc n) i (x ∷ []) e below = absurd (omega arith)
-word_at (suc n) zero (x ∷ y ∷ rest) e below = refl
-word_at (suc n) (suc i) (x ∷ y ∷ rest) e below =
-    let low : 2 * suc i ≡ suc (suc (2 * i)) = omega arith in
-    let high : suc (suc (2 * i)) + 1 ≡ suc (suc (2 * i + 1)) = omega arith in
-    let here = word_at n i rest (omega arith) (omega arith) in
-    rw (low, high) here
+use Rattle.plain_drive.proofs.Blocks.{word_at, bytes_pushed}
 
 -- a word more is counted
 pub length_pushed : (n w : ℕ) (block : List ℕ) → n < length block → length (take n block) ≡ n → length (take (n + 1) (set block n w)) ≡ n + 1
@@ -63,9 +43,8 @@ pub words_more : (i w : ℕ) (bytes words : List ℕ) → length bytes ≡ 512 �
     → w ≡ get_or bytes (2 * i) 0 + 256 * get_or bytes (2 * i + 1) 0
     → take (i + 1) (set words i w) ≡ take (i + 1) (words_of bytes)
 words_more i w bytes words whole below room so_far is =
-    let many : length (words_of bytes) ≡ 256 = length_words 256 bytes whole in
-    take_more_set words i w room ∙ rw so_far (ap (λ v. take i (words_of bytes) ++ v ∷ []) (is ∙ sym (word_at 256 i bytes whole below)))
-    ∙ sym (take_more (words_of bytes) i 0 (omega arith))
+    let at = word_at i bytes (omega arith) in
+    take_more_set words i w room ∙ rw so_far (ap (λ v. take i (words_of bytes) ++ v ∷ []) (is ∙ sym at.1)) ∙ sym (take_more (words_of bytes) i 0 at.0)
 
 -- the next two bytes of a block
 two_pushed : (n low high : ℕ) (bytes : List ℕ) → n + 1 < length bytes
@@ -85,9 +64,5 @@ pub bytes_more : (i low high : ℕ) (words bytes : List ℕ) → length bytes �
 bytes_more i low high words bytes whole within below is_low is_high so_far =
     let place : 2 * (i + 1) ≡ 2 * i + 2 = omega arith in
     let two = two_pushed (2 * i) low high bytes (omega arith) in
-    let word = pushed (take i words) (get_or words i 0) in
+    let word = bytes_pushed (take i words) (get_or words i 0) in
     rw (place, two, so_far, is_low, is_high, take_more words i 0 within, word) refl
-  where
-    pushed : (front : List ℕ) (w : ℕ) → bytes_of (front ++ w ∷ []) ≡ bytes_of front ++ w % 256 ∷ w / 256 ∷ []
-    pushed [] w = refl
-    pushed (x ∷ front) w = ap (λ ws. (x % 256) ∷ (x / 256) ∷ ws) (pushed front w)

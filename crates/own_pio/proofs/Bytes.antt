@@ -3,6 +3,7 @@ use Rattle.std.proofs.Common.{◌≡◌, ℕ, ◌+◌, ◌*◌, ◌/◌, ◌%◌
 use Rattle.std.proofs.lemmas.List.{take_more}
 use Rattle.std.proofs.Math.ListN.{set}
 use Rattle.plain_drive.specs.Words.{bytes_of}
+use Rattle.plain_drive.proofs.Blocks.{length_bytes, bytes_pushed}
 use Rattle.own_pio.specs.Moving.{put_over}
 
 -- no byte yet
@@ -21,14 +22,6 @@ over_more zero (x ∷ xs) (y ∷ ys) v (suc m) is room = ap (λ t. x ∷ t) (ove
 over_more (suc n) xs (y ∷ ys) v zero is room = absurd (omega arith)
 over_more (suc n) xs (y ∷ ys) v (suc m) is room = ap (λ t. y ∷ t) (over_more n xs ys v m (omega arith) (omega arith))
 
-pushed : (front : List ℕ) (w : ℕ) → bytes_of (front ++ w ∷ []) ≡ bytes_of front ++ w % 256 ∷ w / 256 ∷ []
-pushed [] w = refl
-pushed (x ∷ front) w = ap (λ ws. (x % 256) ∷ (x / 256) ∷ ws) (pushed front w)
-
-doubled : (words : List ℕ) → length (bytes_of words) ≡ length words + length words
-doubled [] = refl
-doubled (w ∷ words) = let rest = doubled words in omega arith
-
 -- one word more
 pub word_over : (i start low high : ℕ) (words bytes over : List ℕ) → length words ≡ 256 → i < 256 → start + 512 ≤ length bytes
     → low ≡ get_or words i 0 % 256 → high ≡ get_or words i 0 / 256 → over ≡ put_over start (bytes_of (take i words)) bytes
@@ -36,11 +29,11 @@ pub word_over : (i start low high : ℕ) (words bytes over : List ℕ) → lengt
 word_over i start low high words bytes over whole below room is_low is_high so_far =
     let xs = bytes_of (take i words) in
     let many : length (take i words) ≡ i = omega (arith, length-take i words) in
-    let long : length xs ≡ i + i = doubled (take i words) ∙ omega arith in
+    let long : length xs ≡ i + i = length_bytes (take i words) ∙ omega arith in
     let first = over_more start xs bytes low (start + 2 * i) (omega arith) (omega arith) in
     let sum = length-append xs (low ∷ []) in
     let second = over_more start (xs ++ low ∷ []) bytes high (start + 2 * i + 1) (omega arith) (omega arith) in
     let all : bytes_of (take (i + 1) words) ≡ xs ++ get_or words i 0 % 256 ∷ get_or words i 0 / 256 ∷ [] =
-    ap bytes_of (take_more words i 0 (omega arith)) ∙ pushed (take i words) (get_or words i 0) in
+    ap bytes_of (take_more words i 0 (omega arith)) ∙ bytes_pushed (take i words) (get_or words i 0) in
     let two : xs ++ low ∷ [] ++ high ∷ [] ≡ bytes_of (take (i + 1) words) = append_assoc xs (low ∷ []) (high ∷ []) ∙ rw (is_low, is_high) (sym all) in
     rw so_far (ap (λ b. set b (start + 2 * i + 1) high) first ∙ second ∙ ap (λ x. put_over start x bytes) two)

@@ -1,10 +1,11 @@
 -- A block written word by word.
-use Rattle.std.proofs.Common.{◌≡◌, ℕ, ◌+◌, ◌*◌, ◌-◌, ◌<◌, ◌≤◌, ◌++◌, List, [], ◌∷◌, length, zero, suc, true, take, drop, get_or, refl, sym, ap, ◌∙◌, length-drop, arith}
+use Rattle.std.proofs.Common.{◌≡◌, ℕ, ◌+◌, ◌*◌, ◌-◌, ◌<◌, ◌≤◌, ◌++◌, List, [], ◌∷◌, length, zero, suc, true, take, drop, get_or, sym, ap, ◌∙◌, length-drop, arith}
 use Rattle.std.proofs.lemmas.List.{take_more, get_or-drop}
 use Rattle.ata_taskfile.specs.declared.Phase.{Phase}
 use Rattle.ata_taskfile.specs.Data.{is_wanted, left_in, phase_after_write, block_after_write}
 use Rattle.ata_taskfile.specs.Device.{Device, with_phase, after_write_word}
 use Rattle.plain_drive.specs.Plain.{words_of}
+use Rattle.plain_drive.proofs.Blocks.{word_at}
 use Rattle.own_pio.specs.Moving.{phase_wanted, words_at, IsWantedWhole}
 
 one_written : (phase : Phase) (n : ℕ) → is_wanted phase ≡ true → phase_after_write (phase_wanted phase (suc n)) ≡ phase_wanted phase n
@@ -16,18 +17,6 @@ one_taken phase n w block wanted = grind arith
 
 none_written : (phase : Phase) → is_wanted phase ≡ true → left_in phase ≡ 256 → phase_wanted phase 256 ≡ phase
 none_written phase wanted left = grind arith
-
--- a word is made of its two bytes
-word_at : (i : ℕ) (xs : List ℕ) → 2 * i + 1 < length xs → (i < length (words_of xs)) × (get_or (words_of xs) i 0 ≡ get_or xs (2 * i) 0 + 256 * get_or xs (2 * i + 1) 0)
-word_at i [] room = absurd (omega arith)
-word_at i (x ∷ []) room = absurd (omega arith)
-word_at zero (x ∷ y ∷ rest) room = (omega arith, refl)
-word_at (suc i) (x ∷ y ∷ rest) room =
-    let low : 2 * suc i ≡ suc (suc (2 * i)) = omega arith in
-    let high : suc (suc (2 * i)) + 1 ≡ suc (suc (2 * i + 1)) = omega arith in
-    let here = word_at i rest (omega arith) in
-    let within = here.0 in
-    (omega arith, rw (low, high) here.1)
 
 words_more : (i start w : ℕ) (bytes : List ℕ) → start + 2 * i + 1 < length bytes → w ≡ get_or bytes (start + 2 * i) 0 + 256 * get_or bytes (start + 2 * i + 1) 0
     → words_at i start bytes ++ w ∷ [] ≡ words_at (i + 1) start bytes

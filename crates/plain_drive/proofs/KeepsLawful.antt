@@ -1,5 +1,5 @@
 -- Every step leaves a lawful device lawful, where its sectors are whole.
-use Rattle.std.proofs.Common.{◌≡◌, ℕ, Bool, true, false, ◌+◌, List, [], ◌∷◌, zero, suc, length, refl, ap, arith}
+use Rattle.std.proofs.Common.{◌≡◌, ℕ, Bool, true, false, ◌+◌, [], length, refl, arith}
 use Rattle.std.specs.Prelude.{if◌then◌else◌, nat_lt, ◌==◌}
 use Rattle.ata_taskfile.specs.declared.Kind.{Kind}
 use Rattle.ata_taskfile.specs.declared.Kind.TheVariants as kind
@@ -20,10 +20,11 @@ use Rattle.ata_taskfile.specs.Device.{Device, with_bus}
 use Rattle.ata_taskfile.specs.Lawful.{IsLawfulState, IsLawful}
 use Rattle.ata_taskfile.proofs.Lawfulness.{raised_lawful}
 use Rattle.ata_taskfile.proofs.Ends.{announced_lawful, is_due, reset_ended_lawful, refused_lawful}
-use Rattle.plain_drive.specs.Plain.{Plain, with_registers, with_block, sector_value, words_of}
+use Rattle.plain_drive.specs.Plain.{Plain, with_registers, with_block, sector_value}
 use Rattle.plain_drive.specs.Laws.{HasWholeSectors}
 use Rattle.plain_drive.specs.Step.{words_due, offered, ended, next_wanted, first_wanted, walked, sector_given, transferred, proceeded, stepped, failed_step, failure_shown, failure_bit, step_made}
 use Rattle.plain_drive.proofs.Words.{identity-length}
+use Rattle.plain_drive.proofs.Blocks.{length_words}
 use Rattle.plain_drive.proofs.Ends.{ended_lawful, transferred_lawful, walked_lawful, wanted_lawful, first_wanted_lawful, given_up_lawful}
 
 -- other registers, which are lawful
@@ -31,13 +32,6 @@ registers_lawful : (f : TaskFile) (p : Plain) → IsLawfulState f p.device.bus (
 registers_lawful f p l = raised_lawful (line p.device.file) (line f) f p.device.bus (length p.device.block) p.device.sectors l
 
 -- a whole sector has a whole block of words
-length_words : (n : ℕ) (bytes : List ℕ) → length bytes ≡ n + n → length (words_of bytes) ≡ n
-length_words zero [] e = refl
-length_words (suc n) [] e = absurd (omega arith)
-length_words n (x ∷ []) e = absurd (omega arith)
-length_words zero (x ∷ y ∷ rest) e = absurd (omega arith)
-length_words (suc n) (x ∷ y ∷ rest) e = ap suc (length_words n rest (omega arith))
-
 due-length : (k : Kind) (s : ℕ) (d : Device) → length (sector_value s d) ≡ 512 → length (words_due k s d) ≡ 256
 due-length kind.Identify s d whole = identity-length 256 d.sectors
 due-length kind.Read s d whole = length_words 256 (sector_value s d) whole

@@ -1,6 +1,7 @@
 pub mod Cells
 mod Outcomes
 mod Words
+pub mod Blocks
 pub mod Sectors
 pub mod Steps
 pub mod Ends

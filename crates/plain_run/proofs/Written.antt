@@ -1,5 +1,5 @@
 -- What a step of a lawful drive writes.
-use Rattle.std.proofs.Common.{◌≡◌, ◌≢◌, ℕ, ◌+◌, ◌-◌, ◌<◌, ◌≤◌, Bool, true, false, List, [], ◌∷◌, length, Option, Some, None, refl, ap, ◌∙◌, arith}
+use Rattle.std.proofs.Common.{◌≡◌, ◌≢◌, ℕ, ◌+◌, ◌-◌, ◌<◌, ◌≤◌, Bool, true, false, List, [], length, Option, Some, None, refl, ap, ◌∙◌, arith}
 use Rattle.std.specs.Prelude.{if◌then◌else◌, ◌==◌, nat_lt}
 use Rattle.std.proofs.lemmas.Bool.{and_from, eqb-true, eqb-false, ltb-true}
 use Rattle.std.proofs.lemmas.List.{length-map}
@@ -23,6 +23,7 @@ use Rattle.bm_dma.specs.Move.{moved_as, outcome_in, places_in, sector_after}
 use Rattle.plain_drive.specs.Plain.{Plain}
 use Rattle.plain_drive.specs.Words.{bytes_of}
 use Rattle.plain_drive.specs.Change.{leaves, writes, change_made, change_in, change_proceeded, change_walked, change_moved, change_without_data}
+use Rattle.plain_drive.proofs.Blocks.{block_bytes}
 use Rattle.plain_drive.proofs.Ends.{block_whole}
 use Rattle.plain_run.specs.Written.{is_outward, is_within}
 use Rattle.plain_run.proofs.Kept.{Writes}
@@ -31,14 +32,6 @@ use Rattle.plain_run.proofs.Aims.{aims_in}
 -- a whole sector, to which the order in hand brings data
 abbrev pub IsAimed : Phase → ℕ → List ℕ → Type 0
 IsAimed phase s value = (length value ≡ 512) × (aims_in s phase ≡ true)
-
--- a block has the bytes of a sector
-doubled : (words : List ℕ) → length (bytes_of words) ≡ length words + length words
-doubled [] = refl
-doubled (w ∷ words) = let rest = doubled words in omega arith
-
-block_bytes : (block : List ℕ) → length block ≡ 256 → length (bytes_of block) ≡ 512
-block_bytes block whole = let two = doubled block in omega arith
 
 -- a sector of an order that goes on lies in its range
 within_range : (first count done : ℕ) → done < count → is_within first count (first + done) ≡ true

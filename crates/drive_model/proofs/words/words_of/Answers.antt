@@ -1,7 +1,8 @@
 use Rattle.std.proofs.Common.{◌≡◌, sym, ◌∙◌, arith}
 use Rattle.std.proofs.lemmas.Grind.{common_steps}
 use Rattle.plain_drive.specs.Plain.{words_of}
-use Rattle.drive_model.proofs.Blocks.{words_more, length_words, whole_block}
+use Rattle.plain_drive.proofs.Blocks.{length_words}
+use Rattle.drive_model.proofs.Blocks.{words_more, whole_block}
 use Rattle.drive_model.proofs.words.words_of.Goals as goal
 
 pub loop-i-preserved : goal.loop-i-preserved
