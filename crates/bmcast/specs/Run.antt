@@ -5,7 +5,7 @@ use Rattle.bm_host.specs.Outside.{Outside, IfTold}
 use Rattle.run_words.specs.Options.{Choice, Says}
 use Rattle.plain_drive.specs.Plain.{sectors_in}
 use Rattle.plain_drive.specs.Cut.{IsOutcome, drive_at_power_on}
-use Rattle.plain_drive.specs.Physical.{Physical, fresh, physical_at_power_on}
+use Rattle.plain_drive.specs.Physical.{Physical, StandsFor, fresh, physical_at_power_on}
 use Rattle.schedule_text.specs.Schedule.{IsSchedule}
 use Rattle.schedule_text.specs.declared.LineFault.{LineFault}
 use Rattle.schedule_text.specs.BadLine.{FailsAt}
@@ -47,10 +47,12 @@ drives_over memory sectors = drives (drive_at_power_on sectors (length sectors) 
 
 -- the run is done, with a guest's memory of so many bytes, from the outside before it to that after it:
 pub record IsDone (memory : ℕ) (old new : Outside) : Type 0 where
-  -- there are the disk's sectors, a history with one entry for each event, and at its end a plain drive and the physical one that stands for it
+  -- there are the disk's sectors, a history with one entry for each event, and at its end a plain drive and the
+  -- physical one, which stands for it
   pub sectors : List (List ℕ)
   pub entries : List Entry
   pub end : Drives
+  pub stands : StandsFor end.physical end.plain
   pub read : IfTold (old.told Disk) (λ disk. sectors ≡ sectors_of_disk disk)
   -- the schedule was read to its line `end` and the end of input, and these are its events
   pub schedule : IfTold (old.told Schedule) (λ text. IsSchedule text (events_of entries))
@@ -70,10 +72,12 @@ pub record IsDone (memory : ℕ) (old new : Outside) : Type 0 where
 
 -- the run ended at a bad line: its number and its kind are those of the schedule's first, and
 pub record IsBadLine (memory : ℕ) (old new : Outside) (number : ℕ) (kind : LineFault) : Type 0 where
-  -- there are the disk's sectors, a history of the events before it, and at its end a plain drive and the physical one that stands for it
+  -- there are the disk's sectors, a history of the events before it, and at its end a plain drive and the physical
+  -- one, which stands for it
   pub sectors : List (List ℕ)
   pub entries : List Entry
   pub end : Drives
+  pub stands : StandsFor end.physical end.plain
   pub read : IfTold (old.told Disk) (λ disk. sectors ≡ sectors_of_disk disk)
   -- the lines before it are those of these events, and it is the first that isn't one, for this fault
   pub schedule : IfTold (old.told Schedule) (λ text. FailsAt text (events_of entries) number kind)
