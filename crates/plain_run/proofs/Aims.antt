@@ -79,16 +79,8 @@ module _ (s : ℕ) where
   reset_away phase f away = grind arith
 
   stored_away : (r : Reg) (v : ℕ) (f : TaskFile) → aims_in s f.phase ≡ false → aims_in s (stored r v f).phase ≡ false
-  stored_away reg.Error v f away = away
-  stored_away reg.Count v f away = away
-  stored_away reg.Low v f away = away
-  stored_away reg.Mid v f away = away
-  stored_away reg.High v f away = away
-  stored_away reg.Device v f away = away
-  stored_away reg.Status v f away = away
   stored_away reg.Alternate v f away = grind (arith, reset_away)
-  stored_away reg.BusCommand v f away = away
-  stored_away reg.BusStatus v f away = away
+  stored_away r v f away = away
 
   after_write_away : (r : Reg) (v : ℕ) (f : TaskFile) → aims_in s f.phase ≡ false → aims_in s (after_write r v f).phase ≡ false
   after_write_away r v f away = let one = stored_away r v f away in grind arith
@@ -156,16 +148,11 @@ module _ (s : ℕ) where
   taken_away : (r : Reg) (v byte : ℕ) (d : Device) → wrote r v d.file ≡ Command byte
       → items_name s (commands_due d.file (in_hand byte d.sectors (after_write r v d.file))) ≡ false
       → aims_in s (in_hand byte d.sectors (after_write r v d.file)).phase ≡ false
-  taken_away reg.Error v byte d w unnamed = absurd (no_command (is_at_work d.file.phase) byte w)
-  taken_away reg.Count v byte d w unnamed = absurd (no_command (is_at_work d.file.phase) byte w)
-  taken_away reg.Low v byte d w unnamed = absurd (no_command (is_at_work d.file.phase) byte w)
-  taken_away reg.Mid v byte d w unnamed = absurd (no_command (is_at_work d.file.phase) byte w)
-  taken_away reg.High v byte d w unnamed = absurd (no_command (is_at_work d.file.phase) byte w)
-  taken_away reg.Device v byte d w unnamed = absurd (no_command (is_at_work d.file.phase) byte w)
   taken_away reg.Status v byte d w unnamed = command_away (has_command d.file.phase || selects_absent d.file) v byte d refl w unnamed
   taken_away reg.Alternate v byte d w unnamed = absurd (no_command_control (has_bit SRST v) d.file.phase byte w)
   taken_away reg.BusCommand v byte d w unnamed = absurd cc
   taken_away reg.BusStatus v byte d w unnamed = absurd cc
+  taken_away r v byte d w unnamed = absurd (no_command (is_at_work d.file.phase) byte w)
 
   wrote_away : (did : Wrote) (r : Reg) (v : ℕ) (d : Device) → wrote r v d.file ≡ did → aims_in s d.file.phase ≡ false
       → items_name s (commands_due d.file (after_wrote did (after_write r v d.file) d).file) ≡ false

@@ -31,10 +31,8 @@ sound_run start now (entry ∷ earlier) sound (before, run, last) =
 -- of the items only commands name a sector
 commands_name : (s : ℕ) (items : List Item) → items_name s (commands_in items) ≡ items_name s items
 commands_name s [] = refl
-commands_name s (item.Answer ∷ items) = commands_name s items
-commands_name s (item.Go n ∷ items) = commands_name s items
-commands_name s (item.Bad ∷ items) = commands_name s items
 commands_name s (item.Command byte first count ∷ items) = ap (λ rest. names_write s (item.Command byte first count) || rest) (commands_name s items)
+commands_name s (one ∷ items) = commands_name s items
 
 -- an event that takes no command whose line names the sector brings none into hand that brings data to it
 event_away : (s : ℕ) (one : Event) (q : Physical) → aims_in s q.file.phase ≡ false → items_name s (commands_due q.file (physical_event one q).file) ≡ false
@@ -43,16 +41,9 @@ event_away s (event.Read8 r) q away unnamed = read8_away s r (seen q).device awa
 event_away s (event.Write8 r v) q away unnamed = write8_away s r v (seen q).device away unnamed
 event_away s (event.ReadWords n) q away unnamed = words_away s n (seen q).device away
 event_away s (event.WriteWords bytes) q away unnamed = written_away s (words_of bytes) (seen q).device away
-event_away s event.ReadPointer q away unnamed = away
-event_away s (event.WritePointer v) q away unnamed = away
-event_away s (event.ReadMemory address n) q away unnamed = away
-event_away s (event.WriteMemory address bytes) q away unnamed = away
-event_away s event.Line q away unnamed = away
 event_away s (event.Drive st) q away unnamed = step_away s st (seen q) away
-event_away s (event.Destage k) q away unnamed = away
 event_away s event.Cut q away unnamed = refl
-event_away s event.Remark q away unnamed = away
-event_away s event.End q away unnamed = away
+event_away s one q away unnamed = away
 
 module _ (s : ℕ) (value : List ℕ) where
   -- a whole sector, and of this one no other value

@@ -41,23 +41,18 @@ just_commands byte (Busy order zero) = item_commands byte order
 answers_behind : (items last : List Item) (bytes : List ℕ) → answers_in last bytes ≡ [] → answers_in (items ++ last) bytes ≡ answers_in items bytes
 answers_behind [] last bytes none = none
 answers_behind (item.Answer ∷ items) last bytes none = ap (λ xs. bytes ∷ xs) (answers_behind items last bytes none)
-answers_behind (item.Go n ∷ items) last bytes none = answers_behind items last bytes none
-answers_behind (item.Bad ∷ items) last bytes none = answers_behind items last bytes none
-answers_behind (item.Command byte first count ∷ items) last bytes none = answers_behind items last bytes none
+answers_behind (one ∷ items) last bytes none = answers_behind items last bytes none
 
 plan_behind : (items last : List Item) → plan_in last ≡ [] → plan_in (items ++ last) ≡ plan_in items
 plan_behind [] last none = none
-plan_behind (item.Answer ∷ items) last none = plan_behind items last none
 plan_behind (item.Go n ∷ items) last none = ap (λ xs. item.Go n ∷ xs) (plan_behind items last none)
 plan_behind (item.Bad ∷ items) last none = ap (λ xs. item.Bad ∷ xs) (plan_behind items last none)
-plan_behind (item.Command byte first count ∷ items) last none = plan_behind items last none
+plan_behind (one ∷ items) last none = plan_behind items last none
 
 commands_behind : (items last : List Item) → commands_in items ≡ [] → commands_in (items ++ last) ≡ commands_in last
 commands_behind [] last none = refl
-commands_behind (item.Answer ∷ items) last none = commands_behind items last none
-commands_behind (item.Go n ∷ items) last none = commands_behind items last none
-commands_behind (item.Bad ∷ items) last none = commands_behind items last none
 commands_behind (item.Command byte first count ∷ items) last none = absurd cc
+commands_behind (one ∷ items) last none = commands_behind items last none
 
 -- the item of a command that was just taken is no answer, no plan item and the one command
 pub answers_noted : (items : List Item) (byte : ℕ) (phase : Phase) (bytes : List ℕ) → answers_in (items ++ just_taken byte phase) bytes ≡ answers_in items bytes

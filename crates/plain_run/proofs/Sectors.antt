@@ -79,33 +79,14 @@ event_sectors (event.Read8 r) q = accessed-sectors (access.Read8 r) (seen q).dev
 event_sectors (event.Write8 r v) q = accessed-sectors (access.Write8 r v) (seen q).device
 event_sectors (event.ReadWords n) q = words_sectors n (seen q).device
 event_sectors (event.WriteWords bytes) q = written_sectors (words_of bytes) (seen q).device
-event_sectors event.ReadPointer q = refl
-event_sectors (event.WritePointer v) q = refl
-event_sectors (event.ReadMemory address n) q = refl
-event_sectors (event.WriteMemory address bytes) q = refl
-event_sectors event.Line q = refl
 event_sectors (event.Drive s) q = step_sectors s (seen q)
-event_sectors (event.Destage k) q = refl
-event_sectors event.Cut q = refl
-event_sectors event.Remark q = refl
-event_sectors event.End q = refl
+event_sectors one q = refl
 
 -- or how many it keeps
 pub event_length : (one : Event) (q : Physical) → length (physical_event one q).kept.durable ≡ length q.kept.durable
-event_length (event.Read8 r) q = refl
-event_length (event.Write8 r v) q = refl
-event_length (event.ReadWords n) q = refl
-event_length (event.WriteWords bytes) q = refl
-event_length event.ReadPointer q = refl
-event_length (event.WritePointer v) q = refl
-event_length (event.ReadMemory address n) q = refl
-event_length (event.WriteMemory address bytes) q = refl
-event_length event.Line q = refl
 event_length (event.Drive s) q = after_length (change_made s (seen q)) q.kept
 event_length (event.Destage k) q = destaged_length k q.kept
-event_length event.Cut q = refl
-event_length event.Remark q = refl
-event_length event.End q = refl
+event_length one q = refl
 
 -- so a run has as many sectors at its end as at its start
 pub run_sectors : (start now : Physical) (entries : List Entry) → IsDriveRun start entries now → now.sectors ≡ start.sectors

@@ -54,35 +54,19 @@ module _ (Q : ℕ → List ℕ → Type 0) (whole : (s : ℕ) (value : List ℕ)
   event_lawful (event.Write8 r v) q sound = accessed-lawful (access.Write8 r v) (seen q).device sound.lawful
   event_lawful (event.ReadWords n) q sound = words_lawful n (seen q).device sound.lawful
   event_lawful (event.WriteWords bytes) q sound = written_lawful (words_of bytes) (seen q).device sound.lawful
-  event_lawful event.ReadPointer q sound = sound.lawful
   event_lawful (event.WritePointer v) q sound = accessed-lawful (access.WritePointer v) (seen q).device sound.lawful
-  event_lawful (event.ReadMemory address n) q sound = sound.lawful
-  event_lawful (event.WriteMemory address bytes) q sound = sound.lawful
-  event_lawful event.Line q sound = sound.lawful
   event_lawful (event.Drive s) q sound = step_made-lawful s (seen q) (sound_whole q sound) sound.lawful
-  event_lawful (event.Destage k) q sound = sound.lawful
   event_lawful event.Cut q sound = power_lawful (cells_of (kept_cut q.kept)) q.sectors
-  event_lawful event.Remark q sound = sound.lawful
-  event_lawful event.End q sound = sound.lawful
+  event_lawful one q sound = sound.lawful
 
   event_holds : (one : Event) (q : Physical) → ((s : ℕ) (value : List ℕ) → IsAimed q.file.phase s value → Q s value) → IsSound Q q
       → Holds Q (physical_event one q).kept
-  event_holds (event.Read8 r) q aimed sound = sound.kept
-  event_holds (event.Write8 r v) q aimed sound = sound.kept
-  event_holds (event.ReadWords n) q aimed sound = sound.kept
-  event_holds (event.WriteWords bytes) q aimed sound = sound.kept
-  event_holds event.ReadPointer q aimed sound = sound.kept
-  event_holds (event.WritePointer v) q aimed sound = sound.kept
-  event_holds (event.ReadMemory address n) q aimed sound = sound.kept
-  event_holds (event.WriteMemory address bytes) q aimed sound = sound.kept
-  event_holds event.Line q aimed sound = sound.kept
   event_holds (event.Drive s) q aimed sound =
       after_holds Q (change_made s (seen q)) q.kept
       (writes_weaker (IsAimed q.file.phase) Q aimed (change_made s (seen q)) (step_aimed s (seen q) sound.lawful)) sound.kept
   event_holds (event.Destage k) q aimed sound = destaged_holds Q k q.kept sound.kept
   event_holds event.Cut q aimed sound = cut_holds Q q.kept sound.kept
-  event_holds event.Remark q aimed sound = sound.kept
-  event_holds event.End q aimed sound = sound.kept
+  event_holds one q aimed sound = sound.kept
 
   -- an event keeps it, where such a value is what a step may write then
   pub event_sound : (one : Event) (q : Physical) → ((s : ℕ) (value : List ℕ) → IsAimed q.file.phase s value → Q s value) → IsSound Q q

@@ -29,20 +29,8 @@ words_shared cells (suc n) d = λ i. word_read d ∷ words_shared cells n (after
 
 -- so does each event
 answer_shared : (cells : List Cell) (one : Event) (p : Plain) → answer_to one (with_cells cells p) ≡ answer_to one p
-answer_shared cells (event.Read8 r) p = refl
-answer_shared cells (event.Write8 r v) p = refl
 answer_shared cells (event.ReadWords n) p = ap (λ words. bytes_of words ∷ []) (words_shared cells n p.device)
-answer_shared cells (event.WriteWords bytes) p = refl
-answer_shared cells event.ReadPointer p = refl
-answer_shared cells (event.WritePointer v) p = refl
-answer_shared cells (event.ReadMemory address n) p = refl
-answer_shared cells (event.WriteMemory address bytes) p = refl
-answer_shared cells event.Line p = refl
-answer_shared cells (event.Drive s) p = refl
-answer_shared cells (event.Destage k) p = refl
-answer_shared cells event.Cut p = refl
-answer_shared cells event.Remark p = refl
-answer_shared cells event.End p = refl
+answer_shared cells one p = refl
 
 -- words of Data read and written
 words_stand : (n : ℕ) (q : Physical) (p : Plain) → StandsFor q p → StandsFor (reached_by (event.ReadWords n) q) (accessed (event.ReadWords n) p)
@@ -69,48 +57,36 @@ memory_stands address bytes q p stands = record {
   cells = stands.cells;
 }
 
--- where an event leaves the plain drive: after its step, at power-on over the sectors that are then durable, or after its access
+-- where an event leads the plain drive before its step: to power-on over the sectors that are then durable, or behind its access
+between : Event → Physical → Plain → Plain
+between event.Cut new p = restarted new.kept.durable p
+between one new p = accessed one p
+
+-- and where it leaves it
 next : Event → Physical → Plain → Plain
-next (event.Read8 r) new p = accessed (event.Read8 r) p
-next (event.Write8 r v) new p = accessed (event.Write8 r v) p
-next (event.ReadWords n) new p = accessed (event.ReadWords n) p
-next (event.WriteWords bytes) new p = accessed (event.WriteWords bytes) p
-next event.ReadPointer new p = p
-next (event.WritePointer v) new p = accessed (event.WritePointer v) p
-next (event.ReadMemory address n) new p = p
-next (event.WriteMemory address bytes) new p = accessed (event.WriteMemory address bytes) p
-next event.Line new p = p
 next (event.Drive s) new p = step_made s p
-next (event.Destage k) new p = p
-next event.Cut new p = restarted new.kept.durable p
-next event.Remark new p = p
-next event.End new p = p
+next one new p = between one new p
 
 -- the physical drive stands for it
 next_stands : (one : Event) (q : Physical) (p : Plain) → StandsFor q p → StandsFor (physical_event one q) (next one (physical_event one q) p)
-unfolding next
+unfolding between next
 next_stands (event.Read8 r) q p stands = access_stands q p stands (access.Read8 r)
 next_stands (event.Write8 r v) q p stands = access_stands q p stands (access.Write8 r v)
 next_stands (event.ReadWords n) q p stands = words_stand n q p stands
 next_stands (event.WriteWords bytes) q p stands = written_stand (words_of bytes) q p stands
-next_stands event.ReadPointer q p stands = stands
 next_stands (event.WritePointer v) q p stands = access_stands q p stands (access.WritePointer v)
-next_stands (event.ReadMemory address n) q p stands = stands
 next_stands (event.WriteMemory address bytes) q p stands = memory_stands address bytes q p stands
-next_stands event.Line q p stands = stands
 next_stands (event.Drive s) q p stands = step_stands q p stands s
 next_stands (event.Destage k) q p stands = destage_stands q p stands k
 next_stands event.Cut q p stands = subst (λ memory. StandsFor (physical_event event.Cut q) (drive_at_power_on q.kept.durable p.device.sectors (zeroed memory))) stands.memory (cut_stands q p stands (zeroed q.memory))
-next_stands event.Remark q p stands = stands
-next_stands event.End q p stands = stands
+next_stands one q p stands = stands
 
 -- answers and commands are no part of a plan
 follows : (items : List Item) (old new : Plain) → FollowsPlan (plan_in items) old new → FollowsPlan items old new
 follows [] old new goes = goes
-follows (item.Answer ∷ items) old new goes = follows items old new goes
 follows (item.Go n ∷ items) old new goes = (goes.0, goes.1, follows items (went n old) new goes.2)
 follows (item.Bad ∷ items) old new goes = (goes.0, follows items (bad_step old) new goes.1)
-follows (item.Command byte first count ∷ items) old new goes = follows items old new goes
+follows (one ∷ items) old new goes = follows items old new goes
 
 -- a step's plan leads to where the step does
 step_follows : (s : Step) (p : Plain) (acting : Bool) → acts s p ≡ acting → FollowsPlan (if acting then step_item s ∷ [] else []) p (step_made s p)
@@ -120,107 +96,30 @@ step_follows s p false idle = step_made_no s p idle
 
 -- only the drive's steps have a plan
 placed : (one : Event) (p : Plain) → may_step one ≡ false → plan_due one p ≡ []
-placed (event.Read8 r) p still = refl
-placed (event.Write8 r v) p still = refl
-placed (event.ReadWords n) p still = refl
-placed (event.WriteWords bytes) p still = refl
-placed event.ReadPointer p still = refl
-placed (event.WritePointer v) p still = refl
-placed (event.ReadMemory address n) p still = refl
-placed (event.WriteMemory address bytes) p still = refl
-placed event.Line p still = refl
 placed (event.Drive s) p still = absurd cc
-placed (event.Destage k) p still = refl
-placed event.Cut p still = refl
-placed event.Remark p still = refl
-placed event.End p still = refl
-
--- where an event leads the plain drive before the steps of its plan
-between : Event → Physical → Plain → Plain
-between (event.Read8 r) new p = accessed (event.Read8 r) p
-between (event.Write8 r v) new p = accessed (event.Write8 r v) p
-between (event.ReadWords n) new p = accessed (event.ReadWords n) p
-between (event.WriteWords bytes) new p = accessed (event.WriteWords bytes) p
-between event.ReadPointer new p = p
-between (event.WritePointer v) new p = accessed (event.WritePointer v) p
-between (event.ReadMemory address n) new p = p
-between (event.WriteMemory address bytes) new p = accessed (event.WriteMemory address bytes) p
-between event.Line new p = p
-between (event.Drive s) new p = p
-between (event.Destage k) new p = p
-between event.Cut new p = restarted new.kept.durable p
-between event.Remark new p = p
-between event.End new p = p
+placed one p still = refl
 
 module _ (q : Physical) (p : Plain) (stands : StandsFor q p) where
   reached : (one : Event) → Reaches (is_cut one) one p (between one (physical_event one q) p)
   unfolding between
-  reached (event.Read8 r) = refl
-  reached (event.Write8 r v) = refl
-  reached (event.ReadWords n) = refl
-  reached (event.WriteWords bytes) = refl
-  reached event.ReadPointer = refl
-  reached (event.WritePointer v) = refl
-  reached (event.ReadMemory address n) = refl
-  reached (event.WriteMemory address bytes) = refl
-  reached event.Line = refl
-  reached (event.Drive s) = refl
-  reached (event.Destage k) = refl
   reached event.Cut = (q.kept.durable, durable_are_outcome q p stands, refl)
-  reached event.Remark = refl
-  reached event.End = refl
+  reached one = refl
 
   followed : (one : Event) → FollowsPlan (plan_due one p) (between one (physical_event one q) p) (next one (physical_event one q) p)
   unfolding between next
-  followed (event.Read8 r) = refl
-  followed (event.Write8 r v) = refl
-  followed (event.ReadWords n) = refl
-  followed (event.WriteWords bytes) = refl
-  followed event.ReadPointer = refl
-  followed (event.WritePointer v) = refl
-  followed (event.ReadMemory address n) = refl
-  followed (event.WriteMemory address bytes) = refl
-  followed event.Line = refl
   followed (event.Drive s) = step_follows s p (acts s p) refl
-  followed (event.Destage k) = refl
-  followed event.Cut = refl
-  followed event.Remark = refl
-  followed event.End = refl
+  followed one = refl
 
   -- the same plan is due on both drives
   same_plan : (one : Event) → plan_due one (seen q) ≡ plan_due one p
-  same_plan (event.Read8 r) = refl
-  same_plan (event.Write8 r v) = refl
-  same_plan (event.ReadWords n) = refl
-  same_plan (event.WriteWords bytes) = refl
-  same_plan event.ReadPointer = refl
-  same_plan (event.WritePointer v) = refl
-  same_plan (event.ReadMemory address n) = refl
-  same_plan (event.WriteMemory address bytes) = refl
-  same_plan event.Line = refl
   same_plan (event.Drive s) = ap (λ acting. if acting then step_item s ∷ [] else []) (same_acts q p stands s)
-  same_plan (event.Destage k) = refl
-  same_plan event.Cut = refl
-  same_plan event.Remark = refl
-  same_plan event.End = refl
+  same_plan one = refl
 
   -- after a cut the plain drive goes on with what is durable
   cut_next : (one : Event) → is_cut one ≡ true → next one (physical_event one q) p ≡ restarted (physical_event one q).kept.durable p
-  unfolding next
-  cut_next (event.Read8 r) cuts = absurd cc
-  cut_next (event.Write8 r v) cuts = absurd cc
-  cut_next (event.ReadWords n) cuts = absurd cc
-  cut_next (event.WriteWords bytes) cuts = absurd cc
-  cut_next event.ReadPointer cuts = absurd cc
-  cut_next (event.WritePointer v) cuts = absurd cc
-  cut_next (event.ReadMemory address n) cuts = absurd cc
-  cut_next (event.WriteMemory address bytes) cuts = absurd cc
-  cut_next event.Line cuts = absurd cc
-  cut_next (event.Drive s) cuts = absurd cc
-  cut_next (event.Destage k) cuts = absurd cc
+  unfolding between next
   cut_next event.Cut cuts = refl
-  cut_next event.Remark cuts = absurd cc
-  cut_next event.End cuts = absurd cc
+  cut_next one cuts = absurd cc
 
   -- one event of the physical drive is one of both
   direct_event : (entry : Entry) → DriveEvent q entry (physical_event entry.event q)

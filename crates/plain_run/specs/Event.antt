@@ -62,39 +62,15 @@ accessed event.Cut p = p
 accessed event.Remark p = p
 accessed event.End p = p
 
--- events under which the report may say that the plain drive made steps
+-- the one event under which the report may say that the plain drive made steps
 abbrev pub may_step : Event → Bool
-may_step (event.Read8 r) = false
-may_step (event.Write8 r v) = false
-may_step (event.ReadWords n) = false
-may_step (event.WriteWords bytes) = false
-may_step event.ReadPointer = false
-may_step (event.WritePointer v) = false
-may_step (event.ReadMemory address n) = false
-may_step (event.WriteMemory address bytes) = false
-may_step event.Line = false
 may_step (event.Drive s) = true
-may_step (event.Destage k) = false
-may_step event.Cut = false
-may_step event.Remark = false
-may_step event.End = false
+may_step one = false
 
 -- a power cut
 abbrev pub is_cut : Event → Bool
-is_cut (event.Read8 r) = false
-is_cut (event.Write8 r v) = false
-is_cut (event.ReadWords n) = false
-is_cut (event.WriteWords bytes) = false
-is_cut event.ReadPointer = false
-is_cut (event.WritePointer v) = false
-is_cut (event.ReadMemory address n) = false
-is_cut (event.WriteMemory address bytes) = false
-is_cut event.Line = false
-is_cut (event.Drive s) = false
-is_cut (event.Destage k) = false
 is_cut event.Cut = true
-is_cut event.Remark = false
-is_cut event.End = false
+is_cut one = false
 
 -- a memory of zeros, as long as this one
 abbrev pub zeroed : List ℕ → List ℕ

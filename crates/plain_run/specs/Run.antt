@@ -42,19 +42,7 @@ step_item step.Bad = item.Bad
 -- the plan items of an event on a drive without a monitor: a step's, where it has an effect (own)
 abbrev pub plan_due : Event → Plain → List Item
 plan_due (event.Drive s) p = if acts s p then step_item s ∷ [] else []
-plan_due (event.Read8 r) p = []
-plan_due (event.Write8 r v) p = []
-plan_due (event.ReadWords n) p = []
-plan_due (event.WriteWords bytes) p = []
-plan_due event.ReadPointer p = []
-plan_due (event.WritePointer v) p = []
-plan_due (event.ReadMemory address n) p = []
-plan_due (event.WriteMemory address bytes) p = []
-plan_due event.Line p = []
-plan_due (event.Destage k) p = []
-plan_due event.Cut p = []
-plan_due event.Remark p = []
-plan_due event.End p = []
+plan_due one p = []
 
 -- one event of a physical drive without a monitor:
 pub record DriveEvent (old : Physical) (entry : Entry) (new : Physical) : Type 0 where
