@@ -10,7 +10,7 @@ use Rattle.bm_host.proofs.OutsideLaws.{same_counts_trans}
 use Rattle.plain_drive.specs.Physical.{Physical}
 use Rattle.plain_drive.specs.Plain.{sectors_in}
 use Rattle.plain_drive.proofs.Sectors.{sectors_in-more}
-use Rattle.bmcast.specs.Streams.{KeepsFilesBut, Waits}
+use Rattle.bmcast.specs.Streams.{KeepsFilesBut, KeepsWaiting, Waits}
 use Rattle.bmcast.proofs.Told.{IfTold-weaker}
 
 -- so many sectors of the disk were read into a store, and nothing else happened
@@ -47,7 +47,7 @@ WritesFront-more old now new before mid after waiting more i below so counts fil
 
 -- nothing waits any more, and Out was empty: it holds all sectors
 pub WritesFront-all : (old now new : Outside) (before mid : Physical) (waiting rest : List ℕ) (i : ℕ) → length before.kept.durable ≤ i
-    → WritesFront old now before mid waiting i → rest ≡ [] → ((text : List ℕ) → Waits waiting now text → Waits rest new text)
+    → WritesFront old now before mid waiting i → rest ≡ [] → KeepsWaiting waiting rest now new
     → IfTold (old.told Out) (λ bytes. bytes ≡ []) → IfTold (new.told Out) (λ bytes. bytes ≡ concat before.kept.durable)
 WritesFront-all old now new before mid waiting rest i all so none waits empty =
     let begun : Waits [] old [] = IfTold-weaker (old.told Out) (λ bytes. bytes ≡ []) (λ bytes. bytes ++ [] ≡ []) (λ bytes e. append-nil bytes ∙ e) empty in

@@ -10,6 +10,5 @@ pub mod PlayedLaws
 pub mod DiskLaws
 pub mod RunLaws
 pub mod ConsoleLaws
-pub mod BadLines
 pub mod Reasons
 pub mod OwedLaws

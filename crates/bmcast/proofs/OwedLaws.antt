@@ -131,10 +131,5 @@ owed_answer words old new status.NoMemory reason bad done cause owed is none = i
 -- the same of a run that stopped
 pub owed_stop : (words : List (List ℕ)) (old new : Outside) (why : Stop) → HasItsReason (status_of why) words old → OnBadLineStatus (status_of why) (RunIsBad words old new)
     → HasItsCause (status_of why) old new → AnswersWhatIsOwed (status_of why) words old new
-owed_stop words old new stop.Usage reason bad cause = owed_answer words old new status.Usage reason bad tt cause
-owed_stop words old new (stop.Unsuitable why) reason bad cause = owed_answer words old new (status.Unsuitable why) reason bad tt cause
-owed_stop words old new stop.NotYet reason bad cause = owed_answer words old new status.NotYet reason bad tt cause
 owed_stop words old new (stop.BadLine n kind) reason bad cause = owed_answer words old new (status.BadLine n kind) reason bad tt cause
-owed_stop words old new (stop.ReadFault role) reason bad cause = owed_answer words old new (status.ReadFault role) reason bad tt cause
-owed_stop words old new (stop.WriteFault role) reason bad cause = owed_answer words old new (status.WriteFault role) reason bad tt cause
-owed_stop words old new stop.NoMemory reason bad cause = owed_answer words old new status.NoMemory reason bad tt cause
+owed_stop words old new other reason bad cause = owed_answer words old new (status_of other) reason tt tt cause

@@ -6,13 +6,13 @@ use Rattle.bm_host.specs.declared.Role.TheVariants.{Schedule}
 use Rattle.schedule_text.specs.Schedule.{IsOneLine}
 use Rattle.bmcast.specs.declared.streams.Streams.{Streams}
 use Rattle.bmcast.proofs.Told.{IfTold-both}
-use Rattle.bmcast.specs.Streams.{unread, Said, Takes, KeepsFiles}
+use Rattle.bmcast.specs.Streams.{unread, Takes, KeepsFiles, KeepsSaid}
 
 -- these bytes were taken, the front of a line, and nothing else happened
 pub record TakesFront (from to : Streams) (old new : Outside) (front : List ℕ) : Type 0 where
   pub counts : SameCounts old new
   pub files : KeepsFiles old new
-  pub said : (text : List ℕ) → Said from old text → Said to new text
+  pub said : KeepsSaid from to old new
   pub bytes : IfTold (old.told Schedule) (λ text. unread from old text ≡ front ++ unread to new text)
   pub one : IsOneLine front
 
@@ -24,7 +24,7 @@ IsOneLine-push (c ∷ line) byte one differs = (one.0, IsOneLine-push line byte 
 -- one byte more was taken
 pub TakesFront-push : (from mid to : Streams) (old now new : Outside) (front : List ℕ) (byte : ℕ)
     → TakesFront from mid old now front → SameCounts now new → KeepsFiles now new
-    → ((text : List ℕ) → Said mid now text → Said to new text)
+    → KeepsSaid mid to now new
     → IfTold (now.told Schedule) (λ text. Takes (Some byte) (unread mid now text) (unread to new text))
     → byte ≢ 10 → TakesFront from to old new (front ++ byte ∷ [])
 TakesFront-push from mid to old now new front byte so counts files said taken differs = record {

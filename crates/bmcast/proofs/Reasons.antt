@@ -25,13 +25,8 @@ early_reason words o choice stop.NoMemory says lengths early = absurd early
 
 -- an early stop is no bad line
 pub early_no_bad_line : (T : Type 0) (why : Stop) (P : ℕ → LineFault → Type 0) → IsEarly why → OnBadLine {T = T} (Err why) P
-early_no_bad_line T (stop.Unsuitable reason) P early = tt
-early_no_bad_line T stop.NotYet P early = tt
-early_no_bad_line T (stop.ReadFault role) P early = tt
-early_no_bad_line T stop.Usage P early = tt
 early_no_bad_line T (stop.BadLine number kind) P early = absurd early
-early_no_bad_line T (stop.WriteFault role) P early = tt
-early_no_bad_line T stop.NoMemory P early = tt
+early_no_bad_line T other P early = tt
 
 -- words and lengths that a run can stand on lead to these ends alone
 pub late_reason : {T : Type 0} (words : List (List ℕ)) (o : Outside) (choice : Choice) (result : Result T Stop) → Says words choice

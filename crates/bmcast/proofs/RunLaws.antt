@@ -15,7 +15,7 @@ use Rattle.plain_run.proofs.Standing.{drives_run}
 use Rattle.plain_run.proofs.Sectors.{run_length}
 use Rattle.plain_run.proofs.Named.{only_named, run_whole}
 use Rattle.bmcast.specs.declared.streams.Streams.{Streams}
-use Rattle.bmcast.specs.Streams.{unread, Said, KeepsAllFiles, KeepsFiles, KeepsFilesBut}
+use Rattle.bmcast.specs.Streams.{unread, Appends, KeepsAllFiles, KeepsFiles, KeepsFilesBut, KeepsSaid}
 use Rattle.bmcast.specs.Played.{HasPlayed, HasEnded}
 use Rattle.bmcast.specs.Run.{IsReady, IsReported, IsStopped, IsDone, IsBadLine, RunIsBad, drive_over, drives_over, sectors_of_disk}
 use Rattle.schedule_text.specs.declared.LineFault.{LineFault}
@@ -26,16 +26,16 @@ use Rattle.bmcast.specs.declared.Status.TheVariants as status
 use Rattle.bmcast.proofs.Told.{IfTold-weaker, IfTold-all}
 
 -- before the first line
-played_none : (s : Streams) (o : Outside) (p : Physical) → IsReady o → s.pending.items ≡ [] → s.at ≡ s.end → HasPlayed p s o p 0
+played_none : (s : Streams) (o : Outside) (p : Physical) → IsReady o → s.pending.items ≡ [] → s.at ≡ s.end → HasPlayed p s o p 1
 played_none s o p ready none taken = record {
   entries = [];
   played = record {
     run = refl;
-    read = IfTold-all (o.told Schedule) _ (λ text. ([], refl, inl (sym (all text))));
     said = IfTold-weaker (o.told Report) _ _ (λ written empty. ap (λ xs. written ++ xs) none ∙ append-nil written ∙ empty) ready.report;
     unended = tt;
   };
-  length = refl;
+  read = IfTold-all (o.told Schedule) _ (λ text. ([], refl, inl (sym (all text))));
+  next = refl;
 }
   where
     all : (text : List ℕ) → unread s o text ≡ text
@@ -46,10 +46,9 @@ played_none s o p ready none taken = record {
 -- the schedule was played, and its report written
 pub reported : (s0 s1 s2 s3 : Streams) (o0 o1 o2 o3 : Outside) (before after : Physical) (number : ℕ)
     → IsReady o0 → s0.pending.items ≡ [] → s0.at ≡ s0.end
-    → ((start : Physical) → HasPlayed start s0 o0 before 0 → HasEnded start s1 o1 after number)
+    → ((start : Physical) → HasPlayed start s0 o0 before 1 → HasEnded start s1 o1 after number)
     → o1.told Schedule ≡ o0.told Schedule
-    → ((text : List ℕ) → Said s1 o1 text → Said s2 o2 (text ++ end_text number))
-    → ((text : List ℕ) → Said s2 o2 text → Said s3 o3 text) → s3.pending.items ≡ []
+    → Appends s1 s2 o1 o2 (end_text number) → KeepsSaid s2 s3 o2 o3 → s3.pending.items ≡ []
     → IsReported o0 o3 before after
 reported s0 s1 s2 s3 o0 o1 o2 o3 before after number ready none taken ended same end_said flushed empty =
     let h = ended before (played_none s0 o0 before ready none taken) in
@@ -65,7 +64,7 @@ reported s0 s1 s2 s3 o0 o1 o2 o3 before after number ready none taken ended same
 -- the schedule was played to its first bad line, and the report before it is written
 pub stopped : (s0 s1 : Streams) (o0 o1 : Outside) (before after : Physical) (number : ℕ) (kind : LineFault)
     → IsReady o0 → s0.pending.items ≡ [] → s0.at ≡ s0.end
-    → ((start : Physical) → HasPlayed start s0 o0 before 0 → HasFailed start s1 o1 after number kind)
+    → ((start : Physical) → HasPlayed start s0 o0 before 1 → HasFailed start s1 o1 after number kind)
     → o1.told Schedule ≡ o0.told Schedule → s1.pending.items ≡ []
     → IsStopped o0 o1 before after number kind
 stopped s0 s1 o0 o1 before after number kind ready none taken failed same empty =

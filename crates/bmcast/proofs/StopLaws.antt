@@ -16,13 +16,9 @@ use Rattle.bmcast.specs.declared.Status.TheVariants as status
 
 -- a stop after calls that raised no count
 pub stopped_after : (a b c : Outside) (why : Stop) → SameCounts a b → Stopped why b c → Stopped why a c
-stopped_after a b c stop.Usage same then = same_counts_trans a b c same then
-stopped_after a b c (stop.Unsuitable why) same then = same_counts_trans a b c same then
-stopped_after a b c (stop.BadLine number fault) same then = same_counts_trans a b c same then
 stopped_after a b c (stop.ReadFault role) same then = only_rose_after Reads role a b c same then
 stopped_after a b c (stop.WriteFault role) same then = only_rose_after Writes role a b c same then
-stopped_after a b c stop.NoMemory same then = same_counts_trans a b c same then
-stopped_after a b c stop.NotYet same then = same_counts_trans a b c same then
+stopped_after a b c other same then = same_counts_trans a b c same then
 
 -- a call after calls that raised no count
 pub ended_after : {T : Type 0} (a b c : Outside) (result : Result T Stop) → SameCounts a b → Ended result b c → Ended result a c
@@ -48,9 +44,6 @@ console_kept role b c then (inr other) = let same = then.writes role other in om
 
 -- what a stop owes, and then Console, is what its status owes
 pub caused : (a b c : Outside) (why : Stop) → Stopped why a b → OnlyConsole b c → HasItsCause (status_of why) a c
-caused a b c stop.Usage same then = console_after a b c same then
-caused a b c (stop.Unsuitable why) same then = console_after a b c same then
-caused a b c (stop.BadLine number fault) same then = console_after a b c same then
 caused a b c (stop.ReadFault role) rose then = record {
   rose = subst (λ n. Rose (a.read_faults role) n) (sym (then.reads role)) rose.rose;
   reads = λ r other. then.reads r ∙ rose.other_roles r other;
@@ -61,66 +54,37 @@ caused a b c (stop.WriteFault role) rose then = record {
   reads = λ r. then.reads r ∙ rose.other_side r;
   writes = λ r other no_console. then.writes r no_console ∙ rose.other_roles r other;
 }
-caused a b c stop.NoMemory same then = console_after a b c same then
-caused a b c stop.NotYet same then = console_after a b c same then
+caused a b c other same then = console_after a b c same then
 
 -- a fact of a bad line gives another
 pub bad_line_weaker : {T : Type 0} (result : Result T Stop) (P Q : ℕ → LineFault → Type 0) → ((n : ℕ) (kind : LineFault) → P n kind → Q n kind) → OnBadLine result P → OnBadLine result Q
-bad_line_weaker (Ok x) P Q step p = tt
-bad_line_weaker (Err stop.Usage) P Q step p = tt
-bad_line_weaker (Err (stop.Unsuitable why)) P Q step p = tt
 bad_line_weaker (Err (stop.BadLine n kind)) P Q step p = step n kind p
-bad_line_weaker (Err (stop.ReadFault role)) P Q step p = tt
-bad_line_weaker (Err (stop.WriteFault role)) P Q step p = tt
-bad_line_weaker (Err stop.NoMemory) P Q step p = tt
-bad_line_weaker (Err stop.NotYet) P Q step p = tt
+bad_line_weaker other P Q step p = tt
 
 -- two facts of a bad line give a third
 pub bad_line_both : {T : Type 0} (result : Result T Stop) (P Q R : ℕ → LineFault → Type 0) → ((n : ℕ) (kind : LineFault) → P n kind → Q n kind → R n kind) → OnBadLine result P → OnBadLine result Q → OnBadLine result R
-bad_line_both (Ok x) P Q R step p q = tt
-bad_line_both (Err stop.Usage) P Q R step p q = tt
-bad_line_both (Err (stop.Unsuitable why)) P Q R step p q = tt
 bad_line_both (Err (stop.BadLine n kind)) P Q R step p q = step n kind p q
-bad_line_both (Err (stop.ReadFault role)) P Q R step p q = tt
-bad_line_both (Err (stop.WriteFault role)) P Q R step p q = tt
-bad_line_both (Err stop.NoMemory) P Q R step p q = tt
-bad_line_both (Err stop.NotYet) P Q R step p q = tt
+bad_line_both other P Q R step p q = tt
 
 -- a fact of a bad line, from another and what holds unless there is a fault
 pub bad_line_from : {T : Type 0} (result : Result T Stop) (S : Type 0) (P Q : ℕ → LineFault → Type 0)
     → ((n : ℕ) (kind : LineFault) → S → P n kind → Q n kind) → UnlessFault result S → OnBadLine result P → OnBadLine result Q
-bad_line_from (Ok x) S P Q step s p = tt
-bad_line_from (Err stop.Usage) S P Q step s p = tt
-bad_line_from (Err (stop.Unsuitable why)) S P Q step s p = tt
 bad_line_from (Err (stop.BadLine n kind)) S P Q step s p = step n kind s p
-bad_line_from (Err (stop.ReadFault role)) S P Q step s p = tt
-bad_line_from (Err (stop.WriteFault role)) S P Q step s p = tt
-bad_line_from (Err stop.NoMemory) S P Q step s p = tt
-bad_line_from (Err stop.NotYet) S P Q step s p = tt
+bad_line_from other S P Q step s p = tt
 
 -- a fact for every status but Done, where it holds of all
 pub unless_done : (s : Status) {P : Type 0} → P → UnlessDone s P
 unless_done status.Done p = tt
-unless_done (status.ReadFault role) p = p
-unless_done (status.WriteFault role) p = p
-unless_done status.Usage p = p
-unless_done (status.Unsuitable why) p = p
-unless_done (status.BadLine number kind) p = p
-unless_done status.NoMemory p = p
-unless_done status.NotYet p = p
+unless_done other p = p
 
 -- Console's write count doesn't fall until a run stops
 console_until : (why : Stop) (a b : Outside) → Stopped why a b → a.write_faults Console ≤ b.write_faults Console
-console_until stop.Usage a b same = let e = same.writes Console in omega arith
-console_until (stop.Unsuitable why) a b same = let e = same.writes Console in omega arith
-console_until (stop.BadLine number kind) a b same = let e = same.writes Console in omega arith
 console_until (stop.ReadFault role) a b rose = let e = rose.other_side Console in omega arith
 console_until (stop.WriteFault role) a b rose = elim (same_role Console role) [
   | inl same ↦ subst (λ r. a.write_faults r ≤ b.write_faults r) (sym same) rose.rose.kept
   | inr other ↦ let e = rose.other_roles Console other in omega arith
 ]
-console_until stop.NoMemory a b same = let e = same.writes Console in omega arith
-console_until stop.NotYet a b same = let e = same.writes Console in omega arith
+console_until other a b same = let e = same.writes Console in omega arith
 
 -- what was told on Console after a run stopped was told since the run began
 pub told_since : (text : List ℕ) (a b c : Outside) (why : Stop) → Stopped why a b → SameConsole a b → IsTold text b c → IsTold text a c
@@ -134,23 +98,16 @@ told_since text a b c why stopped same (inr part) =
 -- a fact of a bad line is one of its status
 pub bad_line_status : (T : Type 0) (why : Stop) (P Q : ℕ → LineFault → Type 0) → ((n : ℕ) (kind : LineFault) → P n kind → Q n kind)
     → OnBadLine {T = T} (Err why) P → OnBadLineStatus (status_of why) Q
-bad_line_status T stop.Usage P Q step p = tt
-bad_line_status T (stop.Unsuitable why) P Q step p = tt
 bad_line_status T (stop.BadLine n kind) P Q step p = step n kind p
-bad_line_status T (stop.ReadFault role) P Q step p = tt
-bad_line_status T (stop.WriteFault role) P Q step p = tt
-bad_line_status T stop.NoMemory P Q step p = tt
-bad_line_status T stop.NotYet P Q step p = tt
+bad_line_status T other P Q step p = tt
 
 -- a run that stopped leaves no hold on Console
 console_not_left : (why : Stop) → IsLeft (status_of why) Console → ⊥
 console_not_left stop.Usage left = left refl
 console_not_left (stop.Unsuitable reason) left = left refl
 console_not_left stop.NotYet left = left refl
-console_not_left (stop.BadLine number kind) left = left
 console_not_left (stop.ReadFault role) left = left.0
-console_not_left (stop.WriteFault role) left = left
-console_not_left stop.NoMemory left = left
+console_not_left other left = left
 
 -- what a run that stopped left is left when that was told on Console
 pub left_and_told : (a b c : Outside) (why : Stop) → LeavesFiles (status_of why) a b → SameElsewhere Console b c → LeavesFiles (status_of why) a c

@@ -1,6 +1,7 @@
 -- What image and disk must be like, and why they are refused.
 use Rattle.std.specs.Prelude.{ℕ, ◌≡◌, ◌<◌, Some, None, length}
 use Rattle.std.specs.Option.{option_map}
+use Rattle.bm_host.specs.declared.Role.{Role}
 use Rattle.bm_host.specs.declared.Role.TheVariants.{Image, Disk}
 use Rattle.bm_host.specs.Outside.{Outside, IfTold}
 use Rattle.fill_bitmap.specs.Lengths.{refusal_of}
@@ -17,6 +18,10 @@ why_of unsuitable.ImageLength = why.ImageLength
 why_of unsuitable.DiskLength = why.DiskLength
 why_of unsuitable.TooSmall = why.TooSmall
 why_of unsuitable.TooLarge = why.TooLarge
+
+-- a role, where it is told, has so many bytes
+abbrev pub HasLength : Role → Outside → ℕ → Type 0
+HasLength role o n = IfTold (o.told role) (λ bytes. length bytes ≡ n)
 
 -- the lengths of image and disk, where both are told
 abbrev pub IfLengths : Outside → (ℕ → ℕ → Type 0) → Type 0

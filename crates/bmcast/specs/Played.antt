@@ -1,40 +1,63 @@
 -- The events that were read and done so far.
-use Rattle.std.specs.Prelude.{ℕ, ◌≡◌, List, ◌∷◌, length}
+use Rattle.std.specs.Prelude.{ℕ, ◌≡◌, ◌≢◌, ◌+◌, ◌⊎◌, List, length}
 use Rattle.bm_host.specs.declared.Role.TheVariants.{Schedule}
 use Rattle.bm_host.specs.Outside.{Outside, IfTold}
 use Rattle.plain_drive.specs.Physical.{Physical}
 use Rattle.schedule_text.specs.declared.Event.{Event}
-use Rattle.schedule_text.specs.Schedule.{HasNoEnd, HasRead, IsSchedule}
+use Rattle.schedule_text.specs.declared.Event.TheVariants as event
+use Rattle.schedule_text.specs.declared.TheConstants.{LAST_LINE}
+use Rattle.schedule_text.specs.Schedule.{HasNoEnd, HasRead, IsEnded, IsSchedule}
 use Rattle.plain_run.specs.Entry.{Entry, events_of, history_text}
 use Rattle.plain_run.specs.Run.{IsDriveRun}
 use Rattle.bmcast.specs.declared.play.Progress.{Progress}
 use Rattle.bmcast.specs.declared.play.Progress.TheVariants as progress
 use Rattle.bmcast.specs.declared.streams.Streams.{Streams}
-use Rattle.bmcast.specs.Streams.{unread, Said}
+use Rattle.bmcast.specs.declared.streams.Fetched.TheVariants as fetched
+use Rattle.bmcast.specs.Streams.{unread, Fetches, Said}
 
--- these entries were read from the schedule, done and reported, and led from the start to now; `end` isn't among them
+-- these entries were done and reported, and led from the start to now; `end` isn't among them
 pub record IsPlayed (start : Physical) (s : Streams) (o : Outside) (now : Physical) (entries : List Entry) : Type 0 where
   pub run : IsDriveRun start entries now
-  pub read : IfTold (o.told Schedule) (λ text. HasRead text (unread s o text) (events_of entries))
   pub said : Said s o (history_text entries)
   pub unended : HasNoEnd (events_of entries)
 
--- so many events were read and done
-pub record HasPlayed (start : Physical) (s : Streams) (o : Outside) (now : Physical) (count : ℕ) : Type 0 where
+-- the events of the lines before this number were read, done and reported
+pub record HasPlayed (start : Physical) (s : Streams) (o : Outside) (now : Physical) (number : ℕ) : Type 0 where
   pub entries : List Entry
   pub played : IsPlayed start s o now entries
-  pub length : length entries ≡ count
+  pub read : IfTold (o.told Schedule) (λ text. HasRead text (unread s o text) (events_of entries))
+  pub next : length entries + 1 ≡ number
 
--- a line more was read, said this event, was done and reported; `end` isn't among the events before
-pub record HasDone (start : Physical) (s : Streams) (o : Outside) (now : Physical) (said_event : Event) (number : ℕ) : Type 0 where
-  pub last : Entry
-  pub earlier : List Entry
-  pub is : last.event ≡ said_event
-  pub run : IsDriveRun start (last ∷ earlier) now
-  pub read : IfTold (o.told Schedule) (λ text. HasRead text (unread s o text) (events_of (last ∷ earlier)))
-  pub said : Said s o (history_text (last ∷ earlier))
-  pub unended : HasNoEnd (events_of earlier)
-  pub length : length (last ∷ earlier) ≡ number
+-- this line stood behind those of the events, and this is left behind it
+abbrev pub IsNextLine : List ℕ → List ℕ → List Event → List ℕ → Type 0
+IsNextLine text left events line = (old : List ℕ) × HasRead text old events
+    × (Fetches fetched.Line line old left ⊎ Fetches fetched.LastLine line old left)
+
+-- the events of the lines before this number were read and done, and its line was taken
+pub record HasTaken (start : Physical) (s : Streams) (o : Outside) (now : Physical) (line : List ℕ) (number : ℕ) : Type 0 where
+  pub entries : List Entry
+  pub played : IsPlayed start s o now entries
+  pub taken : IfTold (o.told Schedule) (λ text. IsNextLine text (unread s o text) (events_of entries) line)
+  pub next : length entries + 1 ≡ number
+
+-- a line of this number may say this event, and then the schedule goes on, or this is its `end`
+abbrev pub Leads : Progress → Event → ℕ → Type 0
+Leads progress.More one number = (one ≢ event.End) × (number ≢ LAST_LINE)
+Leads progress.Ended one number = one ≡ event.End
+
+-- the line `end`, which has this number, was read, done and reported
+pub record HasDoneEnd (start : Physical) (s : Streams) (o : Outside) (now : Physical) (number : ℕ) : Type 0 where
+  pub entries : List Entry
+  pub run : IsDriveRun start entries now
+  pub said : Said s o (history_text entries)
+  pub read : IfTold (o.told Schedule) (λ text. HasRead text (unread s o text) (events_of entries))
+  pub ended : IsEnded (events_of entries)
+  pub length : length entries ≡ number
+
+-- the line of this number was done: the next one is due, or it was `end`
+abbrev pub HasDone : Progress → Physical → Streams → Outside → Physical → ℕ → Type 0
+HasDone progress.More start s o now number = HasPlayed start s o now (number + 1)
+HasDone progress.Ended start s o now number = HasDoneEnd start s o now number
 
 -- a whole schedule was read and done, and `end` is its line of this number
 pub record HasEnded (start : Physical) (s : Streams) (o : Outside) (now : Physical) (number : ℕ) : Type 0 where
@@ -46,5 +69,5 @@ pub record HasEnded (start : Physical) (s : Streams) (o : Outside) (now : Physic
 
 -- after a line of this number the schedule goes on, or it has ended
 abbrev pub Progresses : Progress → Physical → Streams → Outside → Physical → ℕ → Type 0
-Progresses progress.More start s o now number = HasPlayed start s o now number
+Progresses progress.More start s o now number = HasPlayed start s o now (number + 1)
 Progresses progress.Ended start s o now number = HasEnded start s o now number

@@ -39,33 +39,17 @@ abbrev pub HasItsCause : Status → Outside → Outside → Type 0
 HasItsCause status.Done old new = SameCounts old new
 HasItsCause (status.ReadFault role) old new = ReadFailed role old new
 HasItsCause (status.WriteFault role) old new = WriteFailed role old new
-HasItsCause status.Usage old new = OnlyConsole old new
-HasItsCause (status.Unsuitable why) old new = OnlyConsole old new
-HasItsCause (status.BadLine number fault) old new = OnlyConsole old new
-HasItsCause status.NoMemory old new = OnlyConsole old new
-HasItsCause status.NotYet old new = OnlyConsole old new
+HasItsCause other old new = OnlyConsole old new
 
 -- a fact for Done
 abbrev pub OnDone : Status → Type 0 → Type 0
 OnDone status.Done P = P
-OnDone (status.ReadFault role) P = Unit {0}
-OnDone (status.WriteFault role) P = Unit {0}
-OnDone status.Usage P = Unit {0}
-OnDone (status.Unsuitable why) P = Unit {0}
-OnDone (status.BadLine number fault) P = Unit {0}
-OnDone status.NoMemory P = Unit {0}
-OnDone status.NotYet P = Unit {0}
+OnDone other P = Unit {0}
 
 -- a fact for want of memory
 abbrev pub OnNoMemory : Status → Type 0 → Type 0
 OnNoMemory status.NoMemory P = P
-OnNoMemory status.Done P = Unit {0}
-OnNoMemory status.Usage P = Unit {0}
-OnNoMemory (status.Unsuitable why) P = Unit {0}
-OnNoMemory (status.BadLine number fault) P = Unit {0}
-OnNoMemory (status.ReadFault role) P = Unit {0}
-OnNoMemory (status.WriteFault role) P = Unit {0}
-OnNoMemory status.NotYet P = Unit {0}
+OnNoMemory other P = Unit {0}
 
 -- the status of a run that stopped
 abbrev pub status_of : Stop → Status
@@ -117,21 +101,9 @@ SameConsole old new = new.told Console ≡ old.told Console
 -- a fact for every status but Done
 abbrev pub UnlessDone : Status → Type 0 → Type 0
 UnlessDone status.Done P = Unit {0}
-UnlessDone (status.ReadFault role) P = P
-UnlessDone (status.WriteFault role) P = P
-UnlessDone status.Usage P = P
-UnlessDone (status.Unsuitable why) P = P
-UnlessDone (status.BadLine number fault) P = P
-UnlessDone status.NoMemory P = P
-UnlessDone status.NotYet P = P
+UnlessDone other P = P
 
 -- a fact for a bad line
 abbrev pub OnBadLineStatus : Status → (ℕ → LineFault → Type 0) → Type 0
 OnBadLineStatus (status.BadLine number fault) P = P number fault
-OnBadLineStatus status.Done P = Unit {0}
-OnBadLineStatus (status.ReadFault role) P = Unit {0}
-OnBadLineStatus (status.WriteFault role) P = Unit {0}
-OnBadLineStatus status.Usage P = Unit {0}
-OnBadLineStatus (status.Unsuitable why) P = Unit {0}
-OnBadLineStatus status.NoMemory P = Unit {0}
-OnBadLineStatus status.NotYet P = Unit {0}
+OnBadLineStatus other P = Unit {0}

@@ -54,10 +54,4 @@ line_with text = codes "bmcast: " ++ text ++ 10 ∷ []
 -- the line of a status; Done has none
 abbrev pub status_line : Status → List ℕ
 status_line status.Done = []
-status_line status.Usage = line_with (status_text status.Usage)
-status_line (status.Unsuitable reason) = line_with (status_text (status.Unsuitable reason))
-status_line (status.BadLine number kind) = line_with (status_text (status.BadLine number kind))
-status_line (status.ReadFault failed) = line_with (status_text (status.ReadFault failed))
-status_line (status.WriteFault failed) = line_with (status_text (status.WriteFault failed))
-status_line status.NoMemory = line_with (status_text status.NoMemory)
-status_line status.NotYet = line_with (status_text status.NotYet)
+status_line other = line_with (status_text other)

@@ -7,13 +7,9 @@ use Rattle.bmcast.specs.declared.stop.Stop.TheVariants as stop
 
 -- a stop for a fault has raised the count of that role, and any other has raised none
 abbrev pub Stopped : Stop → Outside → Outside → Type 0
-Stopped stop.Usage old new = SameCounts old new
-Stopped (stop.Unsuitable why) old new = SameCounts old new
-Stopped (stop.BadLine number fault) old new = SameCounts old new
 Stopped (stop.ReadFault role) old new = OnlyRose Reads role old new
 Stopped (stop.WriteFault role) old new = OnlyRose Writes role old new
-Stopped stop.NoMemory old new = SameCounts old new
-Stopped stop.NotYet old new = SameCounts old new
+Stopped other old new = SameCounts old new
 
 -- what goes well has raised no count
 abbrev pub Ended : {T : Type 0} → Result T Stop → Outside → Outside → Type 0
@@ -22,72 +18,39 @@ Ended (Err stop) old new = Stopped stop old new
 
 -- a fact of a bad line, its number and its kind
 abbrev pub OnBadLine : {T : Type 0} → Result T Stop → (ℕ → LineFault → Type 0) → Type 0
-OnBadLine (Ok x) P = Unit {0}
-OnBadLine (Err stop.Usage) P = Unit {0}
-OnBadLine (Err (stop.Unsuitable why)) P = Unit {0}
 OnBadLine (Err (stop.BadLine number fault)) P = P number fault
-OnBadLine (Err (stop.ReadFault role)) P = Unit {0}
-OnBadLine (Err (stop.WriteFault role)) P = Unit {0}
-OnBadLine (Err stop.NoMemory) P = Unit {0}
-OnBadLine (Err stop.NotYet) P = Unit {0}
+OnBadLine other P = Unit {0}
 
 -- a fact for what goes well and for a bad line; of a fault nothing is said
 abbrev pub UnlessFault : {T : Type 0} → Result T Stop → Type 0 → Type 0
 UnlessFault (Ok x) P = P
-UnlessFault (Err stop.Usage) P = Unit {0}
-UnlessFault (Err (stop.Unsuitable why)) P = Unit {0}
 UnlessFault (Err (stop.BadLine number fault)) P = P
-UnlessFault (Err (stop.ReadFault role)) P = Unit {0}
-UnlessFault (Err (stop.WriteFault role)) P = Unit {0}
-UnlessFault (Err stop.NoMemory) P = Unit {0}
-UnlessFault (Err stop.NotYet) P = Unit {0}
+UnlessFault other P = Unit {0}
 
 -- a stop while files are read and written: a fault and nothing else
 abbrev pub IsFault : Stop → Type 0
 IsFault (stop.ReadFault role) = Unit {0}
 IsFault (stop.WriteFault role) = Unit {0}
-IsFault stop.Usage = ⊥
-IsFault (stop.Unsuitable why) = ⊥
-IsFault (stop.BadLine number fault) = ⊥
-IsFault stop.NoMemory = ⊥
-IsFault stop.NotYet = ⊥
+IsFault other = ⊥
 
 -- a stop while events are done: a fault or a bad line
 abbrev pub IsPlayStop : Stop → Type 0
-IsPlayStop (stop.ReadFault role) = Unit {0}
-IsPlayStop (stop.WriteFault role) = Unit {0}
 IsPlayStop (stop.BadLine number fault) = Unit {0}
-IsPlayStop stop.NoMemory = ⊥
-IsPlayStop stop.Usage = ⊥
-IsPlayStop (stop.Unsuitable why) = ⊥
-IsPlayStop stop.NotYet = ⊥
-
--- a stop once words and lengths are good: a fault, a bad line or want of memory
-abbrev pub IsLate : Stop → Type 0
-IsLate (stop.ReadFault role) = Unit {0}
-IsLate (stop.WriteFault role) = Unit {0}
-IsLate (stop.BadLine number fault) = Unit {0}
-IsLate stop.NoMemory = Unit {0}
-IsLate stop.Usage = ⊥
-IsLate (stop.Unsuitable why) = ⊥
-IsLate stop.NotYet = ⊥
+IsPlayStop other = IsFault other
 
 -- a stop while the disk is read: a fault, or want of memory
 abbrev pub IsLateFault : Stop → Type 0
-IsLateFault (stop.ReadFault role) = Unit {0}
-IsLateFault (stop.WriteFault role) = Unit {0}
 IsLateFault stop.NoMemory = Unit {0}
-IsLateFault (stop.BadLine number fault) = ⊥
-IsLateFault stop.Usage = ⊥
-IsLateFault (stop.Unsuitable why) = ⊥
-IsLateFault stop.NotYet = ⊥
+IsLateFault other = IsFault other
 
--- a stop while image and disk are measured: unsuitable lengths, an image that isn't empty, or a fault
+-- a stop once words and lengths are good: a fault, a bad line or want of memory
+abbrev pub IsLate : Stop → Type 0
+IsLate stop.NoMemory = Unit {0}
+IsLate other = IsPlayStop other
+
+-- a stop while image and disk are measured: unsuitable lengths, an image that isn't empty, or a file that can't be read
 abbrev pub IsEarly : Stop → Type 0
 IsEarly (stop.Unsuitable why) = Unit {0}
 IsEarly stop.NotYet = Unit {0}
 IsEarly (stop.ReadFault role) = Unit {0}
-IsEarly (stop.WriteFault role) = ⊥
-IsEarly (stop.BadLine number fault) = ⊥
-IsEarly stop.NoMemory = ⊥
-IsEarly stop.Usage = ⊥
+IsEarly other = ⊥

@@ -17,6 +17,18 @@ unread s outside text = drop s.at (take s.end s.block) ++ drop (outside.given Sc
 abbrev pub Said : Streams → Outside → List ℕ → Type 0
 Said s outside text = IfTold (outside.told Report) (λ written. written ++ s.pending.items ≡ text)
 
+-- the report's lines so far stay the same text
+abbrev pub KeepsSaid : Streams → Streams → Outside → Outside → Type 0
+KeepsSaid from to old new = (text : List ℕ) → Said from old text → Said to new text
+
+-- these bytes are appended to it
+abbrev pub Appends : Streams → Streams → Outside → Outside → List ℕ → Type 0
+Appends from to old new lines = (text : List ℕ) → Said from old text → Said to new (text ++ lines)
+
+-- nothing of the schedule is taken
+abbrev pub KeepsUnread : Streams → Streams → Outside → Outside → Type 0
+KeepsUnread from to old new = (text : List ℕ) → unread to new text ≡ unread from old text
+
 -- no role but this one holds anything else
 abbrev pub KeepsFilesBut : Role → Outside → Outside → Type 0
 KeepsFilesBut written old new = (role : Role) → role ≢ written → new.told role ≡ old.told role
@@ -28,6 +40,10 @@ KeepsFiles old new = KeepsFilesBut Report old new
 -- what Out holds and the bytes that wait for it are this text
 abbrev pub Waits : List ℕ → Outside → List ℕ → Type 0
 Waits waiting outside text = IfTold (outside.told Out) (λ written. written ++ waiting ≡ text)
+
+-- that text stays the same
+abbrev pub KeepsWaiting : List ℕ → List ℕ → Outside → Outside → Type 0
+KeepsWaiting waiting left old new = (text : List ℕ) → Waits waiting old text → Waits left new text
 
 -- the next byte was taken, where there is one
 abbrev pub Takes : Option ℕ → List ℕ → List ℕ → Type 0

@@ -48,10 +48,10 @@ fn push_status(line: &mut ArrayVec<u8, MOST>, status: Status)
     match status {
         Status::Done => {}
         Status::Usage => push(line, b"the words are not a command line of this program"),
-        Status::Unsuitable(why) => push_unsuitable(line, why),
+        Status::Unsuitable(why) => push_two(line, b"unsuitable: ", why_name(why)),
         Status::BadLine(number, fault) => push_bad_line(line, number, fault),
-        Status::ReadFault(role) => push_read_fault(line, role),
-        Status::WriteFault(role) => push_write_fault(line, role),
+        Status::ReadFault(role) => push_two(line, b"cannot read ", role_name(role)),
+        Status::WriteFault(role) => push_two(line, b"cannot write ", role_name(role)),
         Status::NoMemory => push(line, b"no memory"),
         Status::NotYet => push(line, b"not yet"),
     }
@@ -65,30 +65,6 @@ fn push_bad_line(line: &mut ArrayVec<u8, MOST>, number: u32, fault: LineFault)
     push(line, b"line ");
     push(line, Buffer::new().format(u64::from(number)).as_bytes());
     push_two(line, b": ", fault_name(fault));
-}
-
-fn push_unsuitable(line: &mut ArrayVec<u8, MOST>, why: Why)
-    requires { length line.old.items ≤ 8 }
-    ensures text { line.new.items ≡ line.old.items ++ codes "unsuitable: " ++ why_name why }
-    ensures room { length line.new.items ≤ 100 }
-{
-    push_two(line, b"unsuitable: ", why_name(why));
-}
-
-fn push_read_fault(line: &mut ArrayVec<u8, MOST>, role: Role)
-    requires { length line.old.items ≤ 8 }
-    ensures text { line.new.items ≡ line.old.items ++ codes "cannot read " ++ role_name role }
-    ensures room { length line.new.items ≤ 100 }
-{
-    push_two(line, b"cannot read ", role_name(role));
-}
-
-fn push_write_fault(line: &mut ArrayVec<u8, MOST>, role: Role)
-    requires { length line.old.items ≤ 8 }
-    ensures text { line.new.items ≡ line.old.items ++ codes "cannot write " ++ role_name role }
-    ensures room { length line.new.items ≤ 100 }
-{
-    push_two(line, b"cannot write ", role_name(role));
 }
 
 fn push_two(line: &mut ArrayVec<u8, MOST>, first: &[u8], second: &[u8])

@@ -5,10 +5,11 @@ ghost use Rattle.std.specs.List.{concat};
 ghost use Rattle.bm_host.specs.Outside.{IfTold, SameBytes};
 ghost use Rattle.bm_host.specs.declared.Role.TheVariants.{Disk, Out};
 ghost use Rattle.plain_drive.specs.Plain.{sectors_in};
+ghost use Rattle.bmcast.specs.Lengths.{HasLength};
 ghost use Rattle.bmcast.specs.Machine.{list_of, physical};
 ghost use Rattle.bmcast.specs.Run.{drive_over, sectors_of_disk};
 ghost use Rattle.bmcast.specs.Stop.{Ended, IsFault, IsLateFault};
-ghost use Rattle.bmcast.specs.Streams.{Waits, KeepsFilesBut};
+ghost use Rattle.bmcast.specs.Streams.{Waits, KeepsFilesBut, KeepsWaiting};
 
 use crate::machine::Machine;
 use crate::stop::Stop;
@@ -26,7 +27,7 @@ const PIECE: usize = 65_536;
 pub fn load<H: Host>(alloc: Global, host: &mut H, size: u64, memory: u32) -> Result<Machine, Stop>
     requires whole { size % 512 ≡ 0 }
     requires memory { memory ≤ MOST_BYTES }
-    requires told { IfTold ((H.outside host.old).told Disk) (λ bytes. length bytes ≡ size) }
+    requires told { HasLength Disk (H.outside host.old) size }
     ensures late { IfErr result IsLateFault }
     ensures counts { Ended result (H.outside host.old) (H.outside host.new) }
     ensures bytes { SameBytes (H.outside host.old) (H.outside host.new) }
@@ -54,8 +55,7 @@ pub fn load<H: Host>(alloc: Global, host: &mut H, size: u64, memory: u32) -> Res
 // Reads all sectors of the disk.
 fn read_disk<H: Host>(host: &mut H, store: &mut MemoryStore) -> Result<(), Stop>
     requires few { 512 * length (list_of store.old) < 2 ^ 64 }
-    requires told { IfTold ((H.outside host.old).told Disk)
-        (λ disk. length disk ≡ 512 * length (list_of store.old)) }
+    requires told { HasLength Disk (H.outside host.old) (512 * length (list_of store.old)) }
     ensures late { IfErr result IsLateFault }
     ensures counts { Ended result (H.outside host.old) (H.outside host.new) }
     ensures bytes { SameBytes (H.outside host.old) (H.outside host.new) }
@@ -73,8 +73,7 @@ fn read_disk<H: Host>(host: &mut H, store: &mut MemoryStore) -> Result<(), Stop>
 fn read_sector<H: Host>(host: &mut H, store: &mut MemoryStore, sector: u64) -> Result<(), Stop>
     requires within { sector < length (list_of store.old) }
     requires few { 512 * length (list_of store.old) < 2 ^ 64 }
-    requires told { IfTold ((H.outside host.old).told Disk)
-        (λ disk. length disk ≡ 512 * length (list_of store.old)) }
+    requires told { HasLength Disk (H.outside host.old) (512 * length (list_of store.old)) }
     ensures late { IfErr result IsLateFault }
     ensures counts { Ended result (H.outside host.old) (H.outside host.new) }
     ensures bytes { SameBytes (H.outside host.old) (H.outside host.new) }
@@ -143,8 +142,8 @@ fn make_room<H: Host>(host: &mut H, piece: &mut Piece) -> Result<(), Stop>
     ensures counts { Ended result (H.outside host.old) (H.outside host.new) }
     ensures files { KeepsFilesBut Out (H.outside host.old) (H.outside host.new) }
     ensures room { OnOk result (length piece.new.items + 512 ≤ PIECE) }
-    ensures waits { OnOk result ((text : List ℕ) → Waits piece.old.items (H.outside host.old) text
-        → Waits piece.new.items (H.outside host.new) text) }
+    ensures waits { OnOk result (KeepsWaiting piece.old.items piece.new.items
+        (H.outside host.old) (H.outside host.new)) }
 {
     if piece.len() + 512 <= PIECE {
         return Ok(());
@@ -158,8 +157,8 @@ fn write_piece<H: Host>(host: &mut H, piece: &mut Piece) -> Result<(), Stop>
     ensures counts { Ended result (H.outside host.old) (H.outside host.new) }
     ensures files { KeepsFilesBut Out (H.outside host.old) (H.outside host.new) }
     ensures empty { OnOk result (piece.new.items ≡ []) }
-    ensures waits { OnOk result ((text : List ℕ) → Waits piece.old.items (H.outside host.old) text
-        → Waits piece.new.items (H.outside host.new) text) }
+    ensures waits { OnOk result (KeepsWaiting piece.old.items piece.new.items
+        (H.outside host.old) (H.outside host.new)) }
 {
     let Ok(()) = host.write_next(Role::Out, piece.as_slice()) else {
         return Err(Stop::WriteFault(Role::Out));

@@ -4,7 +4,7 @@ ghost use Rattle.std.specs.Prelude.{◌≡◌, ◌%◌, ◌/◌, ◌≤◌, ◌<
 ghost use Rattle.bm_host.specs.Outside.{Outside, Counted, IfTold, Reads};
 ghost use Rattle.fill_bitmap.specs.Area.{IsBlock};
 ghost use Rattle.bm_host.specs.declared.Role.TheVariants.{Image, Disk};
-ghost use Rattle.bmcast.specs.Lengths.{CanRun, IfLengths, StopsFor, why_of};
+ghost use Rattle.bmcast.specs.Lengths.{CanRun, HasLength, IfLengths, StopsFor, why_of};
 ghost use Rattle.bmcast.specs.Kept.{IsUnopened, LeavesFiles};
 ghost use Rattle.bmcast.specs.Status.{SameConsole, status_after};
 ghost use Rattle.bmcast.specs.Stop.{Ended, IsEarly};
@@ -24,7 +24,7 @@ pub fn measure<H: Host>(host: &mut H, options: &Options<'_>) -> Result<u64, Stop
     ensures left { LeavesFiles (status_after result) (H.outside host.old) (H.outside host.new) }
     ensures unopened { IsUnopened (H.outside host.old) (H.outside host.new) }
     ensures console { SameConsole (H.outside host.old) (H.outside host.new) }
-    ensures disk { IfOk result (λ n. IfTold ((H.outside host.old).told Disk) (λ bytes. length bytes ≡ n)) }
+    ensures disk { IfOk result (HasLength Disk (H.outside host.old)) }
     ensures whole { IfOk result (λ n. n % 512 ≡ 0) }
     ensures early { IfErr result IsEarly }
     ensures suitable { OnOk result (IfLengths (H.outside host.old) (CanRun options.now.block)) }
@@ -76,7 +76,7 @@ fn image_length<H: Host>(host: &mut H, name: &str) -> Result<u64, Failed>
     ensures counts { Counted Reads Image (H.outside host.old) (H.outside host.new) result }
     ensures files { OnOk result (KeepsAllFiles (H.outside host.old) (H.outside host.new)) }
     ensures others { KeepsFilesBut Image (H.outside host.old) (H.outside host.new) }
-    ensures length { IfOk result (λ n. IfTold ((H.outside host.old).told Image) (λ bytes. length bytes ≡ n)) }
+    ensures length { IfOk result (HasLength Image (H.outside host.old)) }
 {
     host.begin(Role::Image, name)?;
     host.length(Role::Image)
@@ -87,7 +87,7 @@ fn disk_length<H: Host>(host: &mut H, name: &str) -> Result<u64, Failed>
     ensures counts { Counted Reads Disk (H.outside host.old) (H.outside host.new) result }
     ensures files { OnOk result (KeepsAllFiles (H.outside host.old) (H.outside host.new)) }
     ensures others { KeepsFilesBut Disk (H.outside host.old) (H.outside host.new) }
-    ensures length { IfOk result (λ n. IfTold ((H.outside host.old).told Disk) (λ bytes. length bytes ≡ n)) }
+    ensures length { IfOk result (HasLength Disk (H.outside host.old)) }
 {
     host.begin(Role::Disk, name)?;
     host.length(Role::Disk)

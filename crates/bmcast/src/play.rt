@@ -1,20 +1,18 @@
 //! The events of the schedule, read, done and reported one line at a time.
 
-ghost use Rattle.std.specs.Prelude.{◌≡◌, ◌≢◌, ◌≤◌, ◌<◌, ◌+◌, ◌++◌, ◌^◌, ℕ, List, [], ◌∷◌, length, IfErr, IfOk, OnOk};
+ghost use Rattle.std.specs.Prelude.{◌≡◌, ◌≢◌, ◌≤◌, ◌+◌, ◌++◌, ℕ, List, [], IfErr, IfOk, OnOk};
 ghost use Rattle.bm_host.specs.Outside.{Outside, IfTold};
 ghost use Rattle.bm_host.specs.declared.Role.TheVariants.{Schedule};
 ghost use Rattle.plain_drive.specs.Physical.{Physical};
 ghost use Rattle.bmcast.specs.Machine.{physical};
 ghost use Rattle.schedule_text.specs.Line.{Says, IsInRange};
-ghost use Rattle.schedule_text.specs.declared.Event.{Event as EventOf};
-ghost use Rattle.schedule_text.specs.Schedule.{HasNoEnd, HasRead};
-ghost use Rattle.schedule_text.specs.BadLine.{FailsAt, LineFails};
+ghost use Rattle.schedule_text.specs.BadLine.{LineFails};
 ghost use Rattle.plain_run.specs.Entry.{entry_of, items_text};
 ghost use Rattle.plain_run.specs.Run.{DriveEvent};
 ghost use Rattle.bmcast.specs.BadLine.{HasFailed};
 ghost use Rattle.bmcast.specs.Stop.{Ended, IsFault, IsPlayStop, OnBadLine, UnlessFault};
-ghost use Rattle.bmcast.specs.Streams.{unread, Said, KeepsFiles};
-ghost use Rattle.bmcast.specs.Played.{HasPlayed, HasDone, HasEnded, Progresses};
+ghost use Rattle.bmcast.specs.Streams.{unread, Appends, KeepsFiles, KeepsSaid, KeepsUnread};
+ghost use Rattle.bmcast.specs.Played.{HasPlayed, HasTaken, HasDone, HasEnded, Leads, Progresses};
 
 use crate::events::apply;
 use crate::machine::Machine;
@@ -31,52 +29,145 @@ pub enum Progress {
     Ended,
 }
 
-// Reads the next line, whose number this is, and what it says.
-fn next_event<H: Host>(
+/// Reads, does and reports the events of the schedule to its end, and answers the number of its line `end`.
+pub fn play<H: Host>(
+    host: &mut H,
+    streams: &mut Streams,
+    machine: &mut Machine,
+) -> Result<u32, Stop>
+    ensures play { IfErr result IsPlayStop }
+    ensures counts { Ended result (H.outside host.old) (H.outside host.new) }
+    ensures files { KeepsFiles (H.outside host.old) (H.outside host.new) }
+    ensures ended { IfOk result (λ number. (start : Physical)
+        → HasPlayed start streams.old (H.outside host.old) (physical machine.old) 1
+        → HasEnded start streams.new (H.outside host.new) (physical machine.new) number) }
+    ensures bad { OnBadLine result (λ bad kind. (start : Physical)
+        → HasPlayed start streams.old (H.outside host.old) (physical machine.old) 1
+        → HasFailed start streams.new (H.outside host.new) (physical machine.new) bad kind) }
+{
+    let mut line = ArrayVec::new();
+    let mut out = Emitted::new();
+    for number in 1..=LAST_LINE {
+        match play_line(host, streams, machine, &mut line, &mut out, number) {
+            Ok(Progress::More) => {}
+            Ok(Progress::Ended) => return Ok(number),
+            Err(stop) => return Err(stop),
+        }
+    }
+    // The last line that has a number was the end, or was refused.
+    unreachable!()
+}
+
+// One line of the schedule, whose number this is.
+fn play_line<H: Host>(
+    host: &mut H,
+    streams: &mut Streams,
+    machine: &mut Machine,
+    line: &mut Line,
+    out: &mut Emitted,
+    number: u32,
+) -> Result<Progress, Stop>
+    requires number { number ≤ LAST_LINE }
+    ensures play { IfErr result IsPlayStop }
+    ensures counts { Ended result (H.outside host.old) (H.outside host.new) }
+    ensures files { KeepsFiles (H.outside host.old) (H.outside host.new) }
+    ensures progress { IfOk result (λ progress. (start : Physical)
+        → HasPlayed start streams.old (H.outside host.old) (physical machine.old) number
+        → Progresses progress start streams.new (H.outside host.new)
+        (physical machine.new) number) }
+    ensures more { IfOk result (λ progress. progress ≡ Progress.More → number ≢ LAST_LINE) }
+    ensures bad { OnBadLine result (λ bad kind. (start : Physical)
+        → HasPlayed start streams.old (H.outside host.old) (physical machine.old) number
+        → HasFailed start streams.new (H.outside host.new) (physical machine.new) bad kind) }
+{
+    match take_line(host, streams, line, number) {
+        Ok(()) => {}
+        Err(stop) => return Err(stop),
+    }
+    match do_line(host, streams, machine, line, out, number) {
+        Ok(Progress::More) => Ok(Progress::More),
+        Ok(Progress::Ended) => match expect_end(host, streams, number) {
+            Ok(()) => Ok(Progress::Ended),
+            Err(stop) => Err(stop),
+        },
+        Err(stop) => Err(stop),
+    }
+}
+
+// Takes the next line, whose number this is, into `line`.
+fn take_line<H: Host>(
     host: &mut H,
     streams: &mut Streams,
     line: &mut Line,
     number: u32,
-) -> Result<Event, Stop>
-    requires { number ≤ LAST_LINE }
+) -> Result<(), Stop>
+    requires number { number ≤ LAST_LINE }
     ensures play { IfErr result IsPlayStop }
     ensures counts { Ended result (H.outside host.old) (H.outside host.new) }
     ensures files { KeepsFiles (H.outside host.old) (H.outside host.new) }
-    ensures said { UnlessFault result ((text : List ℕ) → Said streams.old (H.outside host.old) text
-        → Said streams.new (H.outside host.new) text) }
-    ensures bad { OnBadLine result (λ n kind. (n ≡ number) × IfTold ((H.outside host.old).told Schedule)
-        (λ text. (events : List EventOf) → HasNoEnd events → length events + 1 ≡ number
-        → HasRead text (unread streams.old (H.outside host.old) text) events
-        → FailsAt text events number kind)) }
-    ensures last { IfOk result (λ event. number ≡ LAST_LINE → event ≡ Event.End) }
-    ensures read { IfOk result (λ event. IfTold ((H.outside host.old).told Schedule)
-        (λ text. (events : List EventOf) → HasRead text (unread streams.old (H.outside host.old) text) events
-        → HasRead text (unread streams.new (H.outside host.new) text) (event ∷ events))) }
-    ensures in_range { IfOk result IsInRange }
+    ensures taken { OnOk result ((start now : Physical)
+        → HasPlayed start streams.old (H.outside host.old) now number
+        → HasTaken start streams.new (H.outside host.new) now line.new.items number) }
+    ensures bad { OnBadLine result (λ bad kind. (start now : Physical)
+        → HasPlayed start streams.old (H.outside host.old) now number
+        → HasFailed start streams.new (H.outside host.new) now bad kind) }
 {
     match streams.next_line(host, line)? {
+        Fetched::Line => Ok(()),
+        Fetched::LastLine => Ok(()),
         Fetched::Nothing => Err(Stop::BadLine(number, LineFault::NoEnd)),
         Fetched::TooLong => Err(Stop::BadLine(number, LineFault::LongLine)),
-        Fetched::Line => said_by(line, number),
-        Fetched::LastLine => said_by(line, number),
     }
 }
 
-// What a line says. The last line that can have a number must be the schedule's end.
-#[tactic(auto, using(crate::proofs::BadLines::said_laws))]
-fn said_by(line: &Line, number: u32) -> Result<Event, Stop>
+// Does what a line says, whose number this is, and reports it.
+//
+// An event has 2 KiB: it stays where `read_line` made it.
+fn do_line<H: Host>(
+    host: &mut H,
+    streams: &mut Streams,
+    machine: &mut Machine,
+    line: &Line,
+    out: &mut Emitted,
+    number: u32,
+) -> Result<Progress, Stop>
+    requires number { number ≤ LAST_LINE }
+    ensures play { IfErr result IsPlayStop }
+    ensures counts { Ended result (H.outside host.old) (H.outside host.new) }
+    ensures files { KeepsFiles (H.outside host.old) (H.outside host.new) }
+    ensures done { IfOk result (λ progress. (start : Physical)
+        → HasTaken start streams.old (H.outside host.old) (physical machine.old) line.now.items number
+        → HasDone progress start streams.new (H.outside host.new) (physical machine.new) number) }
+    ensures more { IfOk result (λ progress. progress ≡ Progress.More → number ≢ LAST_LINE) }
+    ensures bad { OnBadLine result (λ bad kind. (start : Physical)
+        → HasTaken start streams.old (H.outside host.old) (physical machine.old) line.now.items number
+        → HasFailed start streams.new (H.outside host.new) (physical machine.new) bad kind) }
+{
+    let said = read_line(line.as_slice());
+    let event = match &said {
+        Ok(event) => event,
+        Err(fault) => return Err(Stop::BadLine(number, *fault)),
+    };
+    let progress = match progress_after(event, number) {
+        Ok(progress) => progress,
+        Err(stop) => return Err(stop),
+    };
+    do_event(host, streams, machine, event, number, out)?;
+    Ok(progress)
+}
+
+// Whether a schedule goes on behind this event. The last line that can have a number must be the schedule's end.
+fn progress_after(event: &Event, number: u32) -> Result<Progress, Stop>
     ensures play { IfErr result IsPlayStop }
     ensures counts { (o : Outside) → Ended result o o }
-    ensures said { IfOk result (λ event. Says line.now.items event) }
-    ensures in_range { IfOk result IsInRange }
-    ensures last { IfOk result (λ event. number ≡ LAST_LINE → event ≡ Event.End) }
-    ensures bad { OnBadLine result (λ n kind. (n ≡ number) × LineFails kind number line.now.items) }
+    ensures leads { IfOk result (λ progress. Leads progress event.now number) }
+    ensures bad { (line : List ℕ) → Says line event.now
+        → OnBadLine result (λ bad kind. (bad ≡ number) × LineFails kind number line) }
 {
-    match read_line(line.as_slice()) {
-        Ok(Event::End) => Ok(Event::End),
-        Ok(_) if number == LAST_LINE => Err(Stop::BadLine(number, LineFault::TooMany)),
-        Ok(event) => Ok(event),
-        Err(fault) => Err(Stop::BadLine(number, fault)),
+    match event {
+        Event::End => Ok(Progress::Ended),
+        _ if number == LAST_LINE => Err(Stop::BadLine(number, LineFault::TooMany)),
+        _ => Ok(Progress::More),
     }
 }
 
@@ -95,44 +186,15 @@ fn do_event<H: Host>(
     ensures files { KeepsFiles (H.outside host.old) (H.outside host.new) }
     ensures event { DriveEvent (physical machine.old)
         (entry_of event.now out.new.items.items out.new.bytes.items) (physical machine.new) }
-    ensures said { OnOk result ((text : List ℕ) → Said streams.old (H.outside host.old) text
-        → Said streams.new (H.outside host.new)
-        (text ++ items_text number out.new.items.items out.new.bytes.items)) }
-    ensures unread { OnOk result ((text : List ℕ) → unread streams.new (H.outside host.new) text
-        ≡ unread streams.old (H.outside host.old) text) }
+    ensures said { OnOk result
+        (Appends streams.old streams.new (H.outside host.old) (H.outside host.new)
+        (items_text number out.new.items.items out.new.bytes.items)) }
+    ensures unread { OnOk result
+        (KeepsUnread streams.old streams.new (H.outside host.old) (H.outside host.new)) }
 {
     out.clear();
     apply(machine, event, out);
     streams.report(host, number, out)
-}
-
-// Reads, does and reports the next line, whose number this is.
-fn take_line<H: Host>(
-    host: &mut H,
-    streams: &mut Streams,
-    machine: &mut Machine,
-    line: &mut Line,
-    out: &mut Emitted,
-    number: u32,
-) -> Result<Event, Stop>
-    requires number { number ≤ LAST_LINE }
-    ensures play { IfErr result IsPlayStop }
-    ensures counts { Ended result (H.outside host.old) (H.outside host.new) }
-    ensures files { KeepsFiles (H.outside host.old) (H.outside host.new) }
-    ensures done { IfOk result (λ event. (start : Physical) (n : ℕ) → n + 1 ≡ number
-        → HasPlayed start streams.old (H.outside host.old) (physical machine.old) n
-        → HasDone start streams.new (H.outside host.new) (physical machine.new) event number) }
-    ensures last { IfOk result (λ event. number ≡ LAST_LINE → event ≡ Event.End) }
-    ensures bad { OnBadLine result (λ bad kind. (start : Physical) (n : ℕ) → n + 1 ≡ number
-        → HasPlayed start streams.old (H.outside host.old) (physical machine.old) n
-        → HasFailed start streams.new (H.outside host.new) (physical machine.new) bad kind) }
-{
-    let event = match next_event(host, streams, line, number) {
-        Ok(event) => event,
-        Err(stop) => return Err(stop),
-    };
-    do_event(host, streams, machine, &event, number, out)?;
-    Ok(event)
 }
 
 // Nothing follows the line `end`, which has this number.
@@ -141,8 +203,8 @@ fn expect_end<H: Host>(host: &mut H, streams: &mut Streams, number: u32) -> Resu
     ensures play { IfErr result IsPlayStop }
     ensures counts { Ended result (H.outside host.old) (H.outside host.new) }
     ensures files { KeepsFiles (H.outside host.old) (H.outside host.new) }
-    ensures said { UnlessFault result ((text : List ℕ) → Said streams.old (H.outside host.old) text
-        → Said streams.new (H.outside host.new) text) }
+    ensures said { UnlessFault result
+        (KeepsSaid streams.old streams.new (H.outside host.old) (H.outside host.new)) }
     ensures end { OnOk result (IfTold ((H.outside host.old).told Schedule)
         (λ text. unread streams.old (H.outside host.old) text ≡ [])) }
     ensures bad { OnBadLine result (λ bad kind. (bad ≡ number + 1) × (kind ≡ LineFault.Trailing)
@@ -154,68 +216,4 @@ fn expect_end<H: Host>(host: &mut H, streams: &mut Streams, number: u32) -> Resu
         Ok(Some(_)) => Err(Stop::BadLine(number + 1, LineFault::Trailing)),
         Err(stop) => Err(stop),
     }
-}
-
-// One line of the schedule, whose number this is.
-fn play_line<H: Host>(
-    host: &mut H,
-    streams: &mut Streams,
-    machine: &mut Machine,
-    line: &mut Line,
-    out: &mut Emitted,
-    number: u32,
-) -> Result<Progress, Stop>
-    requires number { number ≤ LAST_LINE }
-    ensures play { IfErr result IsPlayStop }
-    ensures counts { Ended result (H.outside host.old) (H.outside host.new) }
-    ensures files { KeepsFiles (H.outside host.old) (H.outside host.new) }
-    ensures progress { IfOk result (λ progress. (start : Physical) (n : ℕ) → n + 1 ≡ number
-        → HasPlayed start streams.old (H.outside host.old) (physical machine.old) n
-        → Progresses progress start streams.new (H.outside host.new)
-        (physical machine.new) number) }
-    ensures more { IfOk result (λ progress. progress ≡ Progress.More → number ≢ LAST_LINE) }
-    ensures bad { OnBadLine result (λ bad kind. (start : Physical) (n : ℕ) → n + 1 ≡ number
-        → HasPlayed start streams.old (H.outside host.old) (physical machine.old) n
-        → HasFailed start streams.new (H.outside host.new) (physical machine.new) bad kind) }
-{
-    let event = match take_line(host, streams, machine, line, out, number) {
-        Ok(event) => event,
-        Err(stop) => return Err(stop),
-    };
-    if let Event::End = event {
-        return match expect_end(host, streams, number) {
-            Ok(()) => Ok(Progress::Ended),
-            Err(stop) => Err(stop),
-        };
-    }
-    Ok(Progress::More)
-}
-
-/// Reads, does and reports the events of the schedule to its end, and answers the number of its line `end`.
-pub fn play<H: Host>(
-    host: &mut H,
-    streams: &mut Streams,
-    machine: &mut Machine,
-) -> Result<u32, Stop>
-    ensures play { IfErr result IsPlayStop }
-    ensures counts { Ended result (H.outside host.old) (H.outside host.new) }
-    ensures files { KeepsFiles (H.outside host.old) (H.outside host.new) }
-    ensures ended { IfOk result (λ number. (start : Physical)
-        → HasPlayed start streams.old (H.outside host.old) (physical machine.old) 0
-        → HasEnded start streams.new (H.outside host.new) (physical machine.new) number) }
-    ensures bad { OnBadLine result (λ bad kind. (start : Physical)
-        → HasPlayed start streams.old (H.outside host.old) (physical machine.old) 0
-        → HasFailed start streams.new (H.outside host.new) (physical machine.new) bad kind) }
-{
-    let mut line = ArrayVec::new();
-    let mut out = Emitted::new();
-    for number in 1..=LAST_LINE {
-        match play_line(host, streams, machine, &mut line, &mut out, number) {
-            Ok(Progress::More) => {}
-            Ok(Progress::Ended) => return Ok(number),
-            Err(stop) => return Err(stop),
-        }
-    }
-    // The last line that has a number was the end, or was refused.
-    unreachable!()
 }

@@ -7,7 +7,7 @@ ghost use Rattle.plain_drive.specs.Physical.{Physical};
 ghost use Rattle.bmcast.specs.Machine.{physical};
 ghost use Rattle.run_words.specs.Pairs.{texts};
 ghost use Rattle.bmcast.specs.Kept.{IsUnopened, LeavesFiles};
-ghost use Rattle.bmcast.specs.Lengths.{CanRun};
+ghost use Rattle.bmcast.specs.Lengths.{CanRun, HasLength};
 ghost use Rattle.bmcast.specs.Stop.{Ended, IsFault, IsLate, IsPlayStop, OnBadLine};
 ghost use Rattle.bmcast.specs.BadLine.{HasFailed};
 ghost use Rattle.bmcast.specs.Status.{Chooses, HasItsReason, OnNoMemory, SameConsole, status_after};
@@ -61,7 +61,7 @@ fn run_events<H: Host>(
 ) -> Result<(), Stop>
     requires whole { size % 512 ≡ 0 }
     requires memory { options.now.memory ≤ MOST_BYTES }
-    requires disk { IfTold ((H.outside host.old).told Disk) (λ bytes. length bytes ≡ size) }
+    requires disk { HasLength Disk (H.outside host.old) size }
     ensures counts { Ended result (H.outside host.old) (H.outside host.new) }
     ensures late { IfErr result IsLate }
     ensures done { OnOk result (IsDone options.now.memory (H.outside host.old) (H.outside host.new)) }
@@ -132,10 +132,10 @@ fn play_to_end<H: Host>(
     ensures files { KeepsFiles (H.outside host.old) (H.outside host.new) }
     ensures play { IfErr result IsPlayStop }
     ensures ended { IfOk result (λ number. (start : Physical)
-        → HasPlayed start streams.old (H.outside host.old) (physical machine.old) 0
+        → HasPlayed start streams.old (H.outside host.old) (physical machine.old) 1
         → HasEnded start streams.new (H.outside host.new) (physical machine.new) number) }
     ensures bad { OnBadLine result (λ bad kind. (start : Physical)
-        → HasPlayed start streams.old (H.outside host.old) (physical machine.old) 0
+        → HasPlayed start streams.old (H.outside host.old) (physical machine.old) 1
         → HasFailed start streams.new (H.outside host.new) (physical machine.new) bad kind) }
     ensures written { OnBadLine result (λ bad kind. streams.new.pending.items ≡ []) }
 {

@@ -40,7 +40,7 @@ impl Streams {
     ghost use Rattle.schedule_text.specs.Report.{end_text, line_text};
     ghost use Rattle.plain_run.specs.Entry.{items_text};
     ghost use Rattle.bmcast.specs.Stop.{Ended, IsFault};
-    ghost use Rattle.bmcast.specs.Streams.{unread, Said, Takes, Fetches, KeepsFiles};
+    ghost use Rattle.bmcast.specs.Streams.{unread, Appends, Takes, Fetches, KeepsFiles, KeepsSaid, KeepsUnread};
 
     /// Nothing read and nothing to write.
     pub fn new() -> Streams
@@ -62,7 +62,8 @@ impl Streams {
         ensures fault { IfErr result IsFault }
         ensures files { KeepsFiles (H.outside host.old) (H.outside host.new) }
         ensures block { self.new ≡ record self.old { pending = self.new.pending } }
-        ensures said { OnOk result ((text : List ℕ) → Said self.old (H.outside host.old) text → Said self.new (H.outside host.new) text) }
+        ensures said { OnOk result
+            (KeepsSaid self.old self.new (H.outside host.old) (H.outside host.new)) }
         ensures empty { OnOk result (self.new.pending.items ≡ []) }
         ensures schedule { (H.outside host.new).given Schedule ≡ (H.outside host.old).given Schedule }
     {
@@ -81,11 +82,11 @@ impl Streams {
         ensures counts { Ended result (H.outside host.old) (H.outside host.new) }
         ensures fault { IfErr result IsFault }
         ensures files { KeepsFiles (H.outside host.old) (H.outside host.new) }
-        ensures said { OnOk result ((text : List ℕ) → Said self.old (H.outside host.old) text
-            → Said self.new (H.outside host.new)
-            (text ++ items_text number out.now.items.items out.now.bytes.items)) }
-        ensures unread { OnOk result ((text : List ℕ) → unread self.new (H.outside host.new) text
-            ≡ unread self.old (H.outside host.old) text) }
+        ensures said { OnOk result
+            (Appends self.old self.new (H.outside host.old) (H.outside host.new)
+            (items_text number out.now.items.items out.now.bytes.items)) }
+        ensures unread { OnOk result
+            (KeepsUnread self.old self.new (H.outside host.old) (H.outside host.new)) }
     {
         for item in out.items.as_slice() {
             self.report_item(host, number, item, out.bytes.as_slice())?;
@@ -104,10 +105,11 @@ impl Streams {
         ensures counts { Ended result (H.outside host.old) (H.outside host.new) }
         ensures fault { IfErr result IsFault }
         ensures files { KeepsFiles (H.outside host.old) (H.outside host.new) }
-        ensures said { OnOk result ((text : List ℕ) → Said self.old (H.outside host.old) text
-            → Said self.new (H.outside host.new) (text ++ line_text number item.now bytes.now)) }
-        ensures unread { OnOk result ((text : List ℕ) → unread self.new (H.outside host.new) text
-            ≡ unread self.old (H.outside host.old) text) }
+        ensures said { OnOk result
+            (Appends self.old self.new (H.outside host.old) (H.outside host.new)
+            (line_text number item.now bytes.now)) }
+        ensures unread { OnOk result
+            (KeepsUnread self.old self.new (H.outside host.old) (H.outside host.new)) }
     {
         write_item(number, item, bytes, &mut self.line);
         self.push_line(host)
@@ -118,10 +120,11 @@ impl Streams {
         ensures counts { Ended result (H.outside host.old) (H.outside host.new) }
         ensures fault { IfErr result IsFault }
         ensures files { KeepsFiles (H.outside host.old) (H.outside host.new) }
-        ensures said { OnOk result ((text : List ℕ) → Said self.old (H.outside host.old) text
-            → Said self.new (H.outside host.new) (text ++ end_text number)) }
-        ensures unread { OnOk result ((text : List ℕ) → unread self.new (H.outside host.new) text
-            ≡ unread self.old (H.outside host.old) text) }
+        ensures said { OnOk result
+            (Appends self.old self.new (H.outside host.old) (H.outside host.new)
+            (end_text number)) }
+        ensures unread { OnOk result
+            (KeepsUnread self.old self.new (H.outside host.old) (H.outside host.new)) }
     {
         write_end(number, &mut self.line);
         self.push_line(host)
@@ -132,10 +135,11 @@ impl Streams {
         ensures counts { Ended result (H.outside host.old) (H.outside host.new) }
         ensures fault { IfErr result IsFault }
         ensures files { KeepsFiles (H.outside host.old) (H.outside host.new) }
-        ensures said { OnOk result ((text : List ℕ) → Said self.old (H.outside host.old) text
-            → Said self.new (H.outside host.new) (text ++ self.old.line.items)) }
-        ensures unread { OnOk result ((text : List ℕ) → unread self.new (H.outside host.new) text
-            ≡ unread self.old (H.outside host.old) text) }
+        ensures said { OnOk result
+            (Appends self.old self.new (H.outside host.old) (H.outside host.new)
+            (self.old.line.items)) }
+        ensures unread { OnOk result
+            (KeepsUnread self.old self.new (H.outside host.old) (H.outside host.new)) }
     {
         self.make_room(host)?;
         self.pending
@@ -149,12 +153,12 @@ impl Streams {
         ensures counts { Ended result (H.outside host.old) (H.outside host.new) }
         ensures fault { IfErr result IsFault }
         ensures files { KeepsFiles (H.outside host.old) (H.outside host.new) }
-        ensures said { OnOk result ((text : List ℕ) → Said self.old (H.outside host.old) text
-            → Said self.new (H.outside host.new) text) }
+        ensures said { OnOk result
+            (KeepsSaid self.old self.new (H.outside host.old) (H.outside host.new)) }
         ensures room { OnOk result (length self.new.pending.items + 4096 ≤ 16384) }
         ensures line { self.new.line ≡ self.old.line }
-        ensures unread { OnOk result ((text : List ℕ) → unread self.new (H.outside host.new) text
-            ≡ unread self.old (H.outside host.old) text) }
+        ensures unread { OnOk result
+            (KeepsUnread self.old self.new (H.outside host.old) (H.outside host.new)) }
     {
         if self.pending.len() + REPORT_LINE <= PENDING {
             return Ok(());
@@ -167,8 +171,8 @@ impl Streams {
         ensures counts { Ended result (H.outside host.old) (H.outside host.new) }
         ensures fault { IfErr result IsFault }
         ensures files { KeepsFiles (H.outside host.old) (H.outside host.new) }
-        ensures said { OnOk result ((text : List ℕ) → Said self.old (H.outside host.old) text
-            → Said self.new (H.outside host.new) text) }
+        ensures said { OnOk result
+            (KeepsSaid self.old self.new (H.outside host.old) (H.outside host.new)) }
         ensures unread { OnOk result (IfTold ((H.outside host.old).told Schedule)
             (λ text. unread self.new (H.outside host.new) text ≡ unread self.old (H.outside host.old) text)) }
         ensures end { OnOk result (IfTold ((H.outside host.old).told Schedule)
@@ -194,8 +198,8 @@ impl Streams {
         ensures counts { Ended result (H.outside host.old) (H.outside host.new) }
         ensures fault { IfErr result IsFault }
         ensures files { KeepsFiles (H.outside host.old) (H.outside host.new) }
-        ensures said { OnOk result ((text : List ℕ) → Said self.old (H.outside host.old) text
-            → Said self.new (H.outside host.new) text) }
+        ensures said { OnOk result
+            (KeepsSaid self.old self.new (H.outside host.old) (H.outside host.new)) }
         ensures byte { IfOk result (λ byte. IfTold ((H.outside host.old).told Schedule)
             (λ text. Takes byte (unread self.old (H.outside host.old) text)
             (unread self.new (H.outside host.new) text))) }
@@ -214,8 +218,8 @@ impl Streams {
         ensures counts { Ended result (H.outside host.old) (H.outside host.new) }
         ensures fault { IfErr result IsFault }
         ensures files { KeepsFiles (H.outside host.old) (H.outside host.new) }
-        ensures said { OnOk result ((text : List ℕ) → Said self.old (H.outside host.old) text
-            → Said self.new (H.outside host.new) text) }
+        ensures said { OnOk result
+            (KeepsSaid self.old self.new (H.outside host.old) (H.outside host.new)) }
         ensures line { IfOk result (λ fetched. IfTold ((H.outside host.old).told Schedule)
             (λ text. Fetches fetched line.new.items (unread self.old (H.outside host.old) text)
             (unread self.new (H.outside host.new) text))) }
