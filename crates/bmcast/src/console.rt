@@ -59,7 +59,8 @@ fn push_status(line: &mut ArrayVec<u8, MOST>, status: Status)
 
 fn push_bad_line(line: &mut ArrayVec<u8, MOST>, number: u32, fault: LineFault)
     requires { length line.old.items ≤ 8 }
-    ensures text { line.new.items ≡ line.old.items ++ codes "line " ++ decimal number ++ codes ": " ++ fault_name fault }
+    ensures text { line.new.items
+        ≡ line.old.items ++ codes "line " ++ decimal number ++ codes ": " ++ fault_name fault }
     ensures room { length line.new.items ≤ 100 }
 {
     push(line, b"line ");

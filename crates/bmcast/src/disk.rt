@@ -56,7 +56,7 @@ pub fn load<H: Host>(alloc: Global, host: &mut H, size: u64, memory: u32) -> Res
 fn read_disk<H: Host>(host: &mut H, store: &mut MemoryStore) -> Result<(), Stop>
     requires few { 512 * length (list_of store.old) < 2 ^ 64 }
     requires told { HasLength Disk (H.outside host.old) (512 * length (list_of store.old)) }
-    ensures late { IfErr result IsLateFault }
+    ensures fault { IfErr result IsFault }
     ensures counts { Ended result (H.outside host.old) (H.outside host.new) }
     ensures bytes { SameBytes (H.outside host.old) (H.outside host.new) }
     ensures count { length (list_of store.new) ≡ length (list_of store.old) }
@@ -74,7 +74,7 @@ fn read_sector<H: Host>(host: &mut H, store: &mut MemoryStore, sector: u64) -> R
     requires within { sector < length (list_of store.old) }
     requires few { 512 * length (list_of store.old) < 2 ^ 64 }
     requires told { HasLength Disk (H.outside host.old) (512 * length (list_of store.old)) }
-    ensures late { IfErr result IsLateFault }
+    ensures fault { IfErr result IsFault }
     ensures counts { Ended result (H.outside host.old) (H.outside host.new) }
     ensures bytes { SameBytes (H.outside host.old) (H.outside host.new) }
     ensures count { length (list_of store.new) ≡ length (list_of store.old) }
@@ -101,6 +101,7 @@ pub fn write_out<H: Host>(host: &mut H, machine: &mut Machine, sectors: u64) -> 
     ensures counts { Ended result (H.outside host.old) (H.outside host.new) }
     ensures fault { IfErr result IsFault }
     ensures files { KeepsFilesBut Out (H.outside host.old) (H.outside host.new) }
+    ensures machine { physical machine.new ≡ physical machine.old }
     ensures out { OnOk result (IfTold ((H.outside host.new).told Out)
         (λ bytes. bytes ≡ concat (physical machine.old).kept.durable)) }
 {

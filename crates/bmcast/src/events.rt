@@ -39,7 +39,8 @@ fn act(machine: &mut Machine, event: &Event, out: &mut Emitted)
     ensures after { physical machine.new ≡ physical_event event.now (physical machine.old) }
     ensures answered { answers_in out.new.items.items out.new.bytes.items
         ≡ answer_to event.now (seen (physical machine.old)) }
-    ensures planned { plan_in out.new.items.items ≡ plan_due event.now (seen (physical machine.old)) }
+    ensures planned { plan_in out.new.items.items
+        ≡ plan_due event.now (seen (physical machine.old)) }
     ensures commands { commands_in out.new.items.items ≡ [] }
     ensures room { length out.new.items.items ≤ 1 }
 {
@@ -79,7 +80,8 @@ fn answer_words(machine: &mut Machine, n: u32, out: &mut Emitted)
     requires bytes { out.old.bytes.items ≡ [] }
     ensures items { out.new.items.items ≡ Item.Answer ∷ [] }
     ensures bytes { out.new.bytes.items ≡ bytes_of (words_read n (device machine.old)) }
-    ensures after { physical machine.new ≡ with_device (after_words n (device machine.old)) (physical machine.old) }
+    ensures after { physical machine.new
+        ≡ with_device (after_words n (device machine.old)) (physical machine.old) }
 {
     out.items.push(Item::Answer);
     for _ in 0..n {
@@ -92,7 +94,8 @@ fn answer_words(machine: &mut Machine, n: u32, out: &mut Emitted)
 // Writes words to Data, one after the other; each has its low byte first.
 fn write_words(machine: &mut Machine, bytes: &[u8])
     ensures after { physical machine.new
-        ≡ with_device (after_written (words_of bytes.now) (device machine.old)) (physical machine.old) }
+        ≡ with_device (after_written (words_of bytes.now) (device machine.old))
+        (physical machine.old) }
 {
     let mut left = bytes;
     while let [low, high, rest @ ..] = left {
@@ -135,7 +138,8 @@ fn write_memory(machine: &mut Machine, address: u32, bytes: &[u8])
 #[tactic(auto, using(crate::proofs::EventLaws::step_items))]
 fn make_step(machine: &mut Machine, step: Step, out: &mut Emitted)
     requires items { out.old.items.items ≡ [] }
-    ensures after { physical machine.new ≡ physical_event (Event.Drive step) (physical machine.old) }
+    ensures after { physical machine.new
+        ≡ physical_event (Event.Drive step) (physical machine.old) }
     ensures answered { answers_in out.new.items.items out.new.bytes.items ≡ [] }
     ensures planned { plan_in out.new.items.items
         ≡ plan_due (Event.Drive step) (seen (physical machine.old)) }
@@ -178,7 +182,8 @@ fn cut(machine: &mut Machine)
 // The item of a command that the drive has just taken.
 fn note_command(file: &TaskFile, out: &mut Emitted)
     requires { length out.old.items.items ≤ 1 }
-    ensures items { out.new.items.items ≡ out.old.items.items ++ just_taken file.now.command file.now.phase }
+    ensures items { out.new.items.items
+        ≡ out.old.items.items ++ just_taken file.now.command file.now.phase }
     ensures bytes { out.new.bytes ≡ out.old.bytes }
 {
     if let Phase::Busy(order, 0) = file.phase {

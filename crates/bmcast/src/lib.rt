@@ -92,7 +92,8 @@ pub fn bmcast<H: Host>(alloc: Global, words: &[String], host: &mut H) -> Status
     ensures reason { HasItsReason result (texts words.now) (H.outside host.old) }
 
     // Where image, disk and schedule are told and no count rose, the answer is the one that they owe.
-    ensures owed { AnswersWhatIsOwed result (texts words.now) (H.outside host.old) (H.outside host.new) }
+    ensures owed { AnswersWhatIsOwed result (texts words.now)
+        (H.outside host.old) (H.outside host.new) }
 
     // Report and Out are opened only behind words and lengths that are good.
     ensures opened { IsUnopened (H.outside host.old) (H.outside host.new)

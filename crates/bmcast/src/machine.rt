@@ -27,7 +27,8 @@ impl Machine {
     #[tactic(auto, using(crate::proofs::Machines::reached))]
     pub fn read8(&mut self, reg: Reg) -> u8
         ensures answer { result ≡ byte_read reg (device self.old) }
-        ensures after { physical self.new ≡ with_device (after_read8 reg (device self.old)) (physical self.old) }
+        ensures after { physical self.new
+            ≡ with_device (after_read8 reg (device self.old)) (physical self.old) }
     {
         self.drive.read8(reg)
     }
@@ -35,7 +36,8 @@ impl Machine {
     /// The guest writes a register.
     #[tactic(auto, using(crate::proofs::Machines::reached))]
     pub fn write8(&mut self, reg: Reg, v: u8)
-        ensures after { physical self.new ≡ with_device (after_write8 reg v (device self.old)) (physical self.old) }
+        ensures after { physical self.new
+            ≡ with_device (after_write8 reg v (device self.old)) (physical self.old) }
     {
         self.drive.write8(reg, v);
     }
@@ -44,7 +46,8 @@ impl Machine {
     #[tactic(auto, using(crate::proofs::Machines::reached))]
     pub fn read_word(&mut self) -> u16
         ensures answer { result ≡ word_read (device self.old) }
-        ensures after { physical self.new ≡ with_device (after_read_word (device self.old)) (physical self.old) }
+        ensures after { physical self.new
+            ≡ with_device (after_read_word (device self.old)) (physical self.old) }
     {
         self.drive.read_word()
     }
@@ -52,7 +55,8 @@ impl Machine {
     /// The guest writes a word to Data.
     #[tactic(auto, using(crate::proofs::Machines::reached))]
     pub fn write_word(&mut self, w: u16)
-        ensures after { physical self.new ≡ with_device (after_write_word w (device self.old)) (physical self.old) }
+        ensures after { physical self.new
+            ≡ with_device (after_write_word w (device self.old)) (physical self.old) }
     {
         self.drive.write_word(w);
     }
@@ -60,7 +64,8 @@ impl Machine {
     /// The guest writes the pointer to the descriptor table.
     #[tactic(auto, using(crate::proofs::Machines::reached))]
     pub fn write_pointer(&mut self, v: u32)
-        ensures after { physical self.new ≡ with_device (after_write_pointer v (device self.old)) (physical self.old) }
+        ensures after { physical self.new
+            ≡ with_device (after_write_pointer v (device self.old)) (physical self.old) }
     {
         self.drive.write_pointer(v);
     }
@@ -79,7 +84,8 @@ impl Machine {
     /// Sets the byte of the guest's memory at a place; outside of it nothing happens (own).
     #[tactic(auto, using(crate::proofs::Machines::outside_set))]
     pub fn set_byte(&mut self, place: u64, v: u8)
-        ensures after { physical self.new ≡ with_memory (slice_set self.old.memory place v) (physical self.old) }
+        ensures after { physical self.new
+            ≡ with_memory (slice_set self.old.memory place v) (physical self.old) }
         ensures memory { self.new.memory ≡ slice_set self.old.memory place v }
     {
         if let Ok(address) = u32::try_from(place) {

@@ -73,8 +73,8 @@ fn play_line<H: Host>(
     ensures files { KeepsFiles (H.outside host.old) (H.outside host.new) }
     ensures progress { IfOk result (λ progress. (start : Physical)
         → HasPlayed start streams.old (H.outside host.old) (physical machine.old) number
-        → Progresses progress start streams.new (H.outside host.new)
-        (physical machine.new) number) }
+        → Progresses progress start streams.new (H.outside host.new) (physical machine.new)
+        number) }
     ensures more { IfOk result (λ progress. progress ≡ Progress.More → number ≢ LAST_LINE) }
     ensures bad { OnBadLine result (λ bad kind. (start : Physical)
         → HasPlayed start streams.old (H.outside host.old) (physical machine.old) number
@@ -136,11 +136,13 @@ fn do_line<H: Host>(
     ensures counts { Ended result (H.outside host.old) (H.outside host.new) }
     ensures files { KeepsFiles (H.outside host.old) (H.outside host.new) }
     ensures done { IfOk result (λ progress. (start : Physical)
-        → HasTaken start streams.old (H.outside host.old) (physical machine.old) line.now.items number
+        → HasTaken start streams.old (H.outside host.old) (physical machine.old)
+        line.now.items number
         → HasDone progress start streams.new (H.outside host.new) (physical machine.new) number) }
     ensures more { IfOk result (λ progress. progress ≡ Progress.More → number ≢ LAST_LINE) }
     ensures bad { OnBadLine result (λ bad kind. (start : Physical)
-        → HasTaken start streams.old (H.outside host.old) (physical machine.old) line.now.items number
+        → HasTaken start streams.old (H.outside host.old) (physical machine.old)
+        line.now.items number
         → HasFailed start streams.new (H.outside host.new) (physical machine.new) bad kind) }
 {
     let said = read_line(line.as_slice());

@@ -64,7 +64,8 @@ fn run_events<H: Host>(
     requires disk { HasLength Disk (H.outside host.old) size }
     ensures counts { Ended result (H.outside host.old) (H.outside host.new) }
     ensures late { IfErr result IsLate }
-    ensures done { OnOk result (IsDone options.now.memory (H.outside host.old) (H.outside host.new)) }
+    ensures done { OnOk result
+        (IsDone options.now.memory (H.outside host.old) (H.outside host.new)) }
     ensures bad { OnBadLine result
         (IsBadLine options.now.memory (H.outside host.old) (H.outside host.new)) }
     ensures files { LeavesFiles (status_after result) (H.outside host.old) (H.outside host.new) }

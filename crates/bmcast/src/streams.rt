@@ -65,7 +65,8 @@ impl Streams {
         ensures said { OnOk result
             (KeepsSaid self.old self.new (H.outside host.old) (H.outside host.new)) }
         ensures empty { OnOk result (self.new.pending.items ≡ []) }
-        ensures schedule { (H.outside host.new).given Schedule ≡ (H.outside host.old).given Schedule }
+        ensures schedule { (H.outside host.new).given Schedule
+            ≡ (H.outside host.old).given Schedule }
     {
         if self.pending.is_empty() {
             return Ok(());
@@ -174,7 +175,8 @@ impl Streams {
         ensures said { OnOk result
             (KeepsSaid self.old self.new (H.outside host.old) (H.outside host.new)) }
         ensures unread { OnOk result (IfTold ((H.outside host.old).told Schedule)
-            (λ text. unread self.new (H.outside host.new) text ≡ unread self.old (H.outside host.old) text)) }
+            (λ text. unread self.new (H.outside host.new) text
+            ≡ unread self.old (H.outside host.old) text)) }
         ensures end { OnOk result (IfTold ((H.outside host.old).told Schedule)
             (λ text. self.new.at ≡ self.new.end → unread self.old (H.outside host.old) text ≡ [])) }
     {
