@@ -19,15 +19,17 @@ ghost use Rattle.plain_run.specs.Written.{is_named};
 
 /// A remark gets no answer and no plan line, and leaves the drive as it is.
 pub fn a_remark_changes_nothing()
-    ensures { (old new : Plain) (entry : Entry) → entry.event ≡ Remark → PlainEvent old entry new → new ≡ old }
+    ensures { (old new : Plain) (entry : Entry) → entry.event ≡ Remark → PlainEvent old entry new
+        → new ≡ old }
 {}
 
 /// Each run of a physical drive that stands for a plain one is, with the same entries, a plain run beside it: its
 /// answers and plan lines are the plain drive's, which goes on after a cut with the durable sectors. It leads to a
 /// plain drive for which the physical one stands then.
 pub fn a_drives_run_is_a_plain_run()
-    ensures { (start : Plain) (physical now : Physical) (entries : List Entry) → StandsFor physical start
-        → IsDriveRun physical entries now → HasPlainRun start physical entries now }
+    ensures { (start : Plain) (physical now : Physical) (entries : List Entry)
+        → StandsFor physical start → IsDriveRun physical entries now
+        → HasPlainRun start physical entries now }
 {}
 
 /// A run changes neither how many sectors a drive keeps, nor how many it says it has.
@@ -40,7 +42,8 @@ pub fn a_run_keeps_the_count_of_sectors()
 
 /// A drive that begins with whole sectors, of 512 bytes each, keeps whole ones.
 pub fn a_run_keeps_sectors_whole()
-    ensures { (room : ℕ) (durable : List (List ℕ)) (memory : List ℕ) (entries : List Entry) (now : Physical)
+    ensures { (room : ℕ) (durable : List (List ℕ)) (memory : List ℕ)
+        (entries : List Entry) (now : Physical)
         → All (λ sector. length sector ≡ 512) durable
         → IsDriveRun (physical_at_power_on (fresh room durable) (length durable) memory) entries now
         → All (λ sector. length sector ≡ 512) now.kept.durable }
@@ -48,7 +51,8 @@ pub fn a_run_keeps_sectors_whole()
 
 /// A sector that no command line of a write names has the durable value that it began with.
 pub fn only_named_sectors_change()
-    ensures { (room : ℕ) (durable : List (List ℕ)) (memory : List ℕ) (entries : List Entry) (now : Physical)
+    ensures { (room : ℕ) (durable : List (List ℕ)) (memory : List ℕ)
+        (entries : List Entry) (now : Physical)
         → All (λ sector. length sector ≡ 512) durable
         → IsDriveRun (physical_at_power_on (fresh room durable) (length durable) memory) entries now
         → (s : ℕ) → is_named s entries ≡ false
