@@ -7,20 +7,20 @@ mod act;
 pub(crate) mod bench;
 mod cache;
 mod dma;
-mod numbered;
 mod other_commands;
 mod pio;
 mod resets;
+mod store;
 
 use crate::Drive;
 use act::Act;
 use ata_taskfile::{Step, Stepped, TaskFile};
 use bench::Bench;
 use drive_store::StoreFault;
-use numbered::NumberedStore;
 use std::alloc::{AllocError, Global};
 use std::process::Abort;
 use std::test::Fail;
+use store::FourSectors;
 
 /// What a run shows, and its acts.
 type Run = (&'static str, &'static [Act]);
@@ -65,7 +65,7 @@ fn check_pairs(rt: &impl Abort, alloc: Global, pairs: &[Pair]) -> Result<(), Fai
 }
 
 /// The first act that doesn't go as it says, and the registers after it.
-fn first_wrong(bench: &mut Bench<NumberedStore>, acts: &[Act]) -> Option<(Act, TaskFile)> {
+fn first_wrong(bench: &mut Bench<FourSectors>, acts: &[Act]) -> Option<(Act, TaskFile)> {
     for act in acts {
         if !act.goes(bench) {
             return Some((*act, *bench.drive.file()));
@@ -75,12 +75,12 @@ fn first_wrong(bench: &mut Bench<NumberedStore>, acts: &[Act]) -> Option<(Act, T
 }
 
 /// Sectors of 10h, 11h, 12h and 13h in each byte. No call of the store fails.
-fn four_sectors(alloc: Global) -> Result<Bench<NumberedStore>, AllocError> {
+fn four_sectors(alloc: Global) -> Result<Bench<FourSectors>, AllocError> {
     failing_sectors(alloc, u32::MAX)
 }
 
 /// The same, where the call of the store with this number fails.
-fn failing_sectors(alloc: Global, failing: u32) -> Result<Bench<NumberedStore>, AllocError> {
-    let store = NumberedStore::new(alloc, failing)?;
+fn failing_sectors(alloc: Global, failing: u32) -> Result<Bench<FourSectors>, AllocError> {
+    let store = FourSectors::new(alloc, failing)?;
     Bench::new(alloc, Drive::new(alloc, store)?)
 }

@@ -3,7 +3,7 @@
 ghost use Rattle.std.specs.Prelude.{◌<◌};
 
 use super::bench::Bench;
-use super::numbered::NumberedStore;
+use super::store::FourSectors;
 use ata_taskfile::{Ports, Reg, Step, Stepped};
 use drive_store::StoreFault;
 
@@ -69,7 +69,7 @@ pub(crate) enum Act {
 
 impl Act {
     /// Does it, and says whether it gave what it is to give.
-    pub(crate) fn goes(&self, bench: &mut Bench<NumberedStore>) -> bool {
+    pub(crate) fn goes(&self, bench: &mut Bench<FourSectors>) -> bool {
         match *self {
             Act::Read(reg, value) => bench.drive.read8(reg) == value,
             Act::Line(high) => bench.drive.line() == high,
@@ -104,7 +104,7 @@ impl Act {
     }
 
     // Does what gives nothing.
-    fn is_done(&self, bench: &mut Bench<NumberedStore>) -> bool {
+    fn is_done(&self, bench: &mut Bench<FourSectors>) -> bool {
         match *self {
             Act::Write(reg, value) => bench.drive.write8(reg, value),
             Act::Narrow(command, first, count) => bench.give_narrow(command, first, count),
@@ -123,7 +123,7 @@ impl Act {
 }
 
 // Whether the first and the last byte of a sector's durable value are this.
-fn is_durable(bench: &mut Bench<NumberedStore>, sector: u64, byte: u8) -> bool {
+fn is_durable(bench: &mut Bench<FourSectors>, sector: u64, byte: u8) -> bool {
     let mut value = [0; 512];
     sector < 4
         && bench.drive.durable(sector, &mut value) == Ok(())
