@@ -1,5 +1,5 @@
 -- What holds of every value that a drive keeps, by its sector.
-use Rattle.std.proofs.Common.{◌≡◌, ℕ, ◌+◌, ◌<◌, Bool, true, false, zero, suc, List, [], ◌∷◌, ◌++◌, length, get_or, set, take, drop, Option, Some, None, refl, sym, ap, ◌∙◌, subst, arith, inl, inr, get_or-set_same, get_or-set_other, length-set}
+use Rattle.std.proofs.Common.{◌≡◌, ℕ, ◌+◌, ◌<◌, Bool, true, false, List, [], ◌∷◌, ◌++◌, length, get_or, set, take, drop, Option, Some, None, refl, sym, ◌∙◌, subst, arith, inl, inr, get_or-set_same, get_or-set_other, length-set}
 use Rattle.std.specs.Prelude.{if◌then◌else◌, not, All, slice_get, slice_index_or}
 use Rattle.std.proofs.lemmas.Bool.{cases_eq}
 use Rattle.std.proofs.lemmas.Option.{get_or_from_slice_get, slice_get_within}
@@ -7,9 +7,10 @@ use Rattle.std.proofs.lemmas.List.Elements.{All-nil, All-head, All-tail, All-app
 use Rattle.write_cache.specs.declared.entry.Entry.{Entry}
 use Rattle.write_cache.specs.Cache.{entry_of, entries_but, is_full, is_of, put_out, taken, values_of}
 use Rattle.write_cache.proofs.Values.{oldest_own, oldest_another}
+use Rattle.plain_drive.proofs.Cells.{cells_from-at}
 use Rattle.plain_drive.specs.Plain.{current, settled}
 use Rattle.plain_drive.specs.Change.{Change, leaves, writes, flushes}
-use Rattle.plain_drive.specs.Physical.{Kept, cell_of, cells_from, made_durable, put_durable, all_durable, kept_after, kept_destaged, kept_cut}
+use Rattle.plain_drive.specs.Physical.{Kept, cells_from, made_durable, put_durable, all_durable, kept_after, kept_destaged, kept_cut}
 
 -- it holds of each entry, and of each durable value
 pub record Holds (Q : ℕ → List ℕ → Type 0) (k : Kept) : Type 0 where
@@ -137,14 +138,7 @@ module _ (Q : ℕ → List ℕ → Type 0) where
   first_holds s [] value all one = one
   first_holds s (newest ∷ written) value all one = All-head (Q s) newest written all
 
-  -- the cell of a sector
-  cell_at : (n i s : ℕ) (entries : List Entry) (durable : List (List ℕ)) → s ≡ n + i → i < length durable
-      → slice_index_or (cells_from n entries durable) i (settled []) ≡ cell_of s entries (get_or durable i [])
-  cell_at n i s entries [] at below = absurd (omega arith)
-  cell_at n zero s entries (value ∷ durable) at below = let same : n ≡ s = omega arith in ap (λ m. cell_of m entries value) same
-  cell_at n (suc i) s entries (value ∷ durable) at below = cell_at (suc n) i s entries durable (omega arith) (omega arith)
-
   pub current_holds : (s : ℕ) (k : Kept) → s < length k.durable → Holds Q k → Q s (current (slice_index_or (cells_from 0 k.cache.entries k.durable) s (settled [])))
   current_holds s k below holds =
-      subst (λ cell. Q s (current cell)) (sym (cell_at 0 s s k.cache.entries k.durable (omega arith) below))
+      subst (λ cell. Q s (current cell)) (sym (cells_from-at 0 s s k.cache.entries k.durable (omega arith) below))
       (first_holds s (values_of s k.cache.entries) (get_or k.durable s []) (values_hold s k.cache.entries holds.entries) (holds.durable s below))
