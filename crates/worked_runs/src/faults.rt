@@ -42,21 +42,31 @@ fn check(rt: &impl Abort, alloc: Global, schedule: &[u8], cases: &[Case<'_>]) ->
     Ok(())
 }
 
-// The calls of a run that only ends, counted by hand. 0 to 3: begin and length of Image, then of Disk. 4 to 6: begin
-// of Schedule, Report and Out. 7 to 22: the disk's 16 sectors. 23: the schedule's one block. 24: the schedule's end. 25:
-// the report's line. 26: out.
+// The calls before the first event, counted by hand. 0 to 3: begin and length of Image, then of Disk. 4 to 6: begin of
+// Schedule, Report and Out. 7 to 22: the disk's 16 sectors.
+const BEFORE: [Case<'static>; 9] = [
+    (&[0], IMAGE, OLD_REPORT),
+    (&[1], IMAGE, OLD_REPORT),
+    (&[2], DISK, OLD_REPORT),
+    (&[3], DISK, OLD_REPORT),
+    (&[4], SCHEDULE, OLD_REPORT),
+    (&[5], REPORT, OLD_REPORT),
+    (&[6], OUT, b""),
+    (&[7], DISK, b""),
+    (&[22], DISK, b""),
+];
+
+#[test]
+fn each_call_before_the_events_fails(rt: HostRuntime) -> Result<(), Fail> {
+    check(&rt, rt.alloc(), b"end\n", &BEFORE)?;
+    check(&rt, rt.alloc(), READ, &BEFORE)
+}
+
+// The further calls of a run that only ends, counted by hand. 23: the schedule's one block. 24: the schedule's end.
+// 25: the report's line. 26: out. A run that is done makes no call 27.
 #[test]
 fn each_call_of_an_empty_schedule_fails(rt: HostRuntime) -> Result<(), Fail> {
-    let cases: [Case<'_>; 14] = [
-        (&[0], IMAGE, OLD_REPORT),
-        (&[1], IMAGE, OLD_REPORT),
-        (&[2], DISK, OLD_REPORT),
-        (&[3], DISK, OLD_REPORT),
-        (&[4], SCHEDULE, OLD_REPORT),
-        (&[5], REPORT, OLD_REPORT),
-        (&[6], OUT, b""),
-        (&[7], DISK, b""),
-        (&[22], DISK, b""),
+    let cases: [Case<'_>; 5] = [
         (&[23], SCHEDULE, b""),
         (&[24], SCHEDULE, b""),
         (&[25], REPORT, b""),
@@ -66,8 +76,7 @@ fn each_call_of_an_empty_schedule_fails(rt: HostRuntime) -> Result<(), Fail> {
     check(&rt, rt.alloc(), b"end\n", &cases)
 }
 
-// The calls of a run that reads one sector, counted by hand. 0 to 3: begin and length of Image, then of Disk. 4 to 6:
-// begin of Schedule, Report and Out. 7 to 22: the disk's 16 sectors. 23: the schedule's one block, before which no line
+// The further calls of a run that reads one sector, counted by hand. 23: the schedule's one block, before which no line
 // waits. 24: the lines that wait, before the next block is asked for. 25: the schedule's end. 26: the last line.
 // 27: out. The line on Console is the call after the one that failed; a run that is done makes no call 28.
 #[test]
@@ -77,16 +86,7 @@ fn each_call_of_a_read_fails(rt: HostRuntime) -> Result<(), Fail> {
     whole.extend_from_slice(b"end 16\n")?;
     let (events, whole) = (events.as_slice(), whole.as_slice());
 
-    let cases: [Case<'_>; 17] = [
-        (&[0], IMAGE, OLD_REPORT),
-        (&[1], IMAGE, OLD_REPORT),
-        (&[2], DISK, OLD_REPORT),
-        (&[3], DISK, OLD_REPORT),
-        (&[4], SCHEDULE, OLD_REPORT),
-        (&[5], REPORT, OLD_REPORT),
-        (&[6], OUT, b""),
-        (&[7], DISK, b""),
-        (&[22], DISK, b""),
+    let cases: [Case<'_>; 8] = [
         (&[23], SCHEDULE, b""),
         (&[23, 24], (SCHEDULE.0, b""), b""),
         (&[24], REPORT, b""),

@@ -13,17 +13,21 @@ const DISK: &[u8] = &[0xee; 512];
 
 const OLD: &[u8] = b"old";
 
-const IMAGE: Status = Status::ReadFault(Role::Image);
-
-const UNREAD_DISK: Status = Status::ReadFault(Role::Disk);
-
-const UNREAD: Status = Status::ReadFault(Role::Schedule);
-
-const REPORT: Status = Status::WriteFault(Role::Report);
-
-const OUT: Status = Status::WriteFault(Role::Out);
-
 const LINE: &[u8] = b"end 1\n";
+
+const NO_IMAGE: Status = Status::ReadFault(Role::Image);
+
+const ODD_IMAGE: Status = Status::Unsuitable(Why::ImageLength);
+
+const NO_DISK: Status = Status::ReadFault(Role::Disk);
+
+const ODD_DISK: Status = Status::Unsuitable(Why::DiskLength);
+
+const NO_SCHEDULE: Status = Status::ReadFault(Role::Schedule);
+
+const NO_REPORT: Status = Status::WriteFault(Role::Report);
+
+const NO_OUT: Status = Status::WriteFault(Role::Out);
 
 const FILES: [&str; 7] = [
     "run_files/image",
@@ -41,33 +45,21 @@ const FILES: [&str; 7] = [
 const CASES: [(&str, &str, Status, &[u8], &[u8]); 17] = [
     ("--pool", "8", Status::Done, LINE, DISK),
     ("--pool", "3", Status::Usage, OLD, OLD),
-    ("--image", "run_files/missing", IMAGE, OLD, OLD),
-    ("--image", "run_files/missing/image", IMAGE, OLD, OLD),
-    ("--image", "run_files", IMAGE, OLD, OLD),
-    (
-        "--image",
-        "run_files/odd",
-        Status::Unsuitable(Why::ImageLength),
-        OLD,
-        OLD,
-    ),
-    ("--disk", "run_files/missing", UNREAD_DISK, OLD, OLD),
-    ("--disk", "run_files", UNREAD_DISK, OLD, OLD),
-    (
-        "--disk",
-        "run_files/odd",
-        Status::Unsuitable(Why::DiskLength),
-        OLD,
-        OLD,
-    ),
-    ("--schedule", "run_files/missing", UNREAD, OLD, OLD),
-    ("--schedule", "run_files", UNREAD, OLD, OLD),
-    ("--report", "run_files/missing/report", REPORT, OLD, OLD),
-    ("--report", "run_files", REPORT, OLD, OLD),
-    ("--report", "run_files/link", REPORT, OLD, OLD),
-    ("--out", "run_files/missing/out", OUT, b"", OLD),
-    ("--out", "run_files", OUT, b"", OLD),
-    ("--out", "run_files/link", OUT, b"", OLD),
+    ("--image", "run_files/missing", NO_IMAGE, OLD, OLD),
+    ("--image", "run_files/missing/image", NO_IMAGE, OLD, OLD),
+    ("--image", "run_files", NO_IMAGE, OLD, OLD),
+    ("--image", "run_files/odd", ODD_IMAGE, OLD, OLD),
+    ("--disk", "run_files/missing", NO_DISK, OLD, OLD),
+    ("--disk", "run_files", NO_DISK, OLD, OLD),
+    ("--disk", "run_files/odd", ODD_DISK, OLD, OLD),
+    ("--schedule", "run_files/missing", NO_SCHEDULE, OLD, OLD),
+    ("--schedule", "run_files", NO_SCHEDULE, OLD, OLD),
+    ("--report", "run_files/missing/report", NO_REPORT, OLD, OLD),
+    ("--report", "run_files", NO_REPORT, OLD, OLD),
+    ("--report", "run_files/link", NO_REPORT, OLD, OLD),
+    ("--out", "run_files/missing/out", NO_OUT, b"", OLD),
+    ("--out", "run_files", NO_OUT, b"", OLD),
+    ("--out", "run_files/link", NO_OUT, b"", OLD),
 ];
 
 // The words of a run in which one option has this value.

@@ -3,7 +3,7 @@
 use crate::hosts::{Ending, Files, OLD_REPORT, WORDS, joined, run, run_schedule, run_words};
 use bm_host::Role;
 use bmcast::{Status, Why};
-use schedule_text::LineFault;
+use schedule_text::LineFault::{self, Form, LongLine, NoEnd, Number, Trailing};
 use std::test::Fail;
 
 const USAGE: &[u8] = b"bmcast: the words are not a command line of this program\n";
@@ -91,38 +91,20 @@ fn lengths_of_image_and_disk(rt: HostRuntime) -> Result<(), Fail> {
 // A schedule, the line that is refused and why, the report, and how the line on Console goes on. The report has the
 // lines of the events before, and no last line.
 const LINES: [(&[u8], u32, LineFault, &[u8], &[u8]); 14] = [
-    (b"", 1, LineFault::NoEnd, b"", b"1: NoEnd"),
-    (b"d ok\n", 2, LineFault::NoEnd, b"1 p go 1\n", b"2: NoEnd"),
-    (b"d ok", 2, LineFault::NoEnd, b"1 p go 1\n", b"2: NoEnd"),
-    (b"g rd 257\nend\n", 1, LineFault::Number, b"", b"1: Number"),
-    (b"g r8 xx\nend\n", 1, LineFault::Form, b"", b"1: Form"),
-    (
-        b"# note\nd ok\n\nt\n",
-        4,
-        LineFault::Form,
-        b"2 p go 1\n",
-        b"4: Form",
-    ),
-    (b"end\nt\n", 2, LineFault::Trailing, b"", b"2: Trailing"),
-    (b"end\nt", 2, LineFault::Trailing, b"", b"2: Trailing"),
-    (
-        b"d ok\nend\n\n",
-        3,
-        LineFault::Trailing,
-        b"1 p go 1\n",
-        b"3: Trailing",
-    ),
-    (&[b'#'; 4097], 1, LineFault::LongLine, b"", b"1: LongLine"),
-    (b"g wd aabbcc\nend\n", 1, LineFault::Form, b"", b"1: Form"),
-    (b"g w32 0000100\nend\n", 1, LineFault::Form, b"", b"1: Form"),
-    (
-        b"g mr 00000000 2001\nend\n",
-        1,
-        LineFault::Number,
-        b"",
-        b"1: Number",
-    ),
-    (b"d put 64\nend\n", 1, LineFault::Number, b"", b"1: Number"),
+    (b"", 1, NoEnd, b"", b"1: NoEnd"),
+    (b"d ok\n", 2, NoEnd, b"1 p go 1\n", b"2: NoEnd"),
+    (b"d ok", 2, NoEnd, b"1 p go 1\n", b"2: NoEnd"),
+    (b"g rd 257\nend\n", 1, Number, b"", b"1: Number"),
+    (b"g r8 xx\nend\n", 1, Form, b"", b"1: Form"),
+    (b"# note\nd ok\n\nt\n", 4, Form, b"2 p go 1\n", b"4: Form"),
+    (b"end\nt\n", 2, Trailing, b"", b"2: Trailing"),
+    (b"end\nt", 2, Trailing, b"", b"2: Trailing"),
+    (b"d ok\nend\n\n", 3, Trailing, b"1 p go 1\n", b"3: Trailing"),
+    (&[b'#'; 4097], 1, LongLine, b"", b"1: LongLine"),
+    (b"g wd aabbcc\nend\n", 1, Form, b"", b"1: Form"),
+    (b"g w32 0000100\nend\n", 1, Form, b"", b"1: Form"),
+    (b"g mr 00000000 2001\nend\n", 1, Number, b"", b"1: Number"),
+    (b"d put 64\nend\n", 1, Number, b"", b"1: Number"),
 ];
 
 #[test]
