@@ -11,7 +11,8 @@ use Rattle.bmcast.specs.declared.streams.Streams.{Streams}
 use Rattle.bmcast.specs.Streams.{Said}
 
 -- the events before the first bad line were read, done and reported
-pub record HasFailed (start : Physical) (s : Streams) (o : Outside) (now : Physical) (number : ℕ) (kind : LineFault) : Type 0 where
+pub record HasFailed (start : Physical) (s : Streams) (o : Outside) (now : Physical) (number : ℕ)
+    (kind : LineFault) : Type 0 where
   pub entries : List Entry
   pub run : IsDriveRun start entries now
   pub fails : IfTold (o.told Schedule) (λ text. FailsAt text (events_of entries) number kind)

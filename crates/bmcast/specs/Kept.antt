@@ -15,8 +15,8 @@ IsRead Report = ⊥
 IsRead Out = ⊥
 IsRead Console = ⊥
 
--- the roles that a run leaves as they were: a refusal writes its line to Console and nothing else, a run that is
--- done writes Report and Out, and of a role whose read failed nothing is said (own)
+-- the roles that a run leaves as they were: a refusal writes its line to Console and nothing else, a run
+-- that is done writes Report and Out, and of a role whose read failed nothing is said (own)
 abbrev pub IsLeft : Status → Role → Type 0
 IsLeft status.Done role = (role ≢ Report) × (role ≢ Out)
 IsLeft status.Usage role = role ≢ Console

@@ -15,7 +15,8 @@ use Rattle.bmcast.specs.declared.Status.TheVariants as status
 pub record Offers (words : List (List ℕ)) (o : Outside) (P : ℕ → ℕ → ℕ → Type 0) : Type 0 where
   pub choice : Choice
   pub says : Says words choice
-  pub lengths : IsSomeAnd (o.told Image) (λ image. IsSomeAnd (o.told Disk) (λ disk. P choice.sizes.block (length image) (length disk)))
+  pub lengths : IsSomeAnd (o.told Image) (λ image. IsSomeAnd (o.told Disk)
+      (λ disk. P choice.sizes.block (length image) (length disk)))
 
 -- the answer that is owed: the first refusal of words, lengths and schedule, or else Done; a fault and want of
 -- memory never are (own)

@@ -16,7 +16,8 @@ use Rattle.bmcast.specs.declared.streams.Fetched.TheVariants as fetched
 use Rattle.bmcast.specs.Streams.{unread, Fetches, Said}
 
 -- these entries were done and reported, and led from the start to now; `end` isn't among them
-pub record IsPlayed (start : Physical) (s : Streams) (o : Outside) (now : Physical) (entries : List Entry) : Type 0 where
+pub record IsPlayed (start : Physical) (s : Streams) (o : Outside) (now : Physical)
+    (entries : List Entry) : Type 0 where
   pub run : IsDriveRun start entries now
   pub said : Said s o (history_text entries)
   pub unended : HasNoEnd (events_of entries)
@@ -34,7 +35,8 @@ IsNextLine text left events line = (old : List ℕ) × HasRead text old events
     × (Fetches fetched.Line line old left ⊎ Fetches fetched.LastLine line old left)
 
 -- the events of the lines before this number were read and done, and its line was taken
-pub record HasTaken (start : Physical) (s : Streams) (o : Outside) (now : Physical) (line : List ℕ) (number : ℕ) : Type 0 where
+pub record HasTaken (start : Physical) (s : Streams) (o : Outside) (now : Physical) (line : List ℕ)
+    (number : ℕ) : Type 0 where
   pub entries : List Entry
   pub played : IsPlayed start s o now entries
   pub taken : IfTold (o.told Schedule) (λ text. IsNextLine text (unread s o text) (events_of entries) line)
@@ -46,7 +48,8 @@ Leads progress.More one number = (one ≢ event.End) × (number ≢ LAST_LINE)
 Leads progress.Ended one number = one ≡ event.End
 
 -- the line `end`, which has this number, was read, done and reported
-pub record HasDoneEnd (start : Physical) (s : Streams) (o : Outside) (now : Physical) (number : ℕ) : Type 0 where
+pub record HasDoneEnd (start : Physical) (s : Streams) (o : Outside) (now : Physical)
+    (number : ℕ) : Type 0 where
   pub entries : List Entry
   pub run : IsDriveRun start entries now
   pub said : Said s o (history_text entries)

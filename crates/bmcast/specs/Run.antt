@@ -43,7 +43,8 @@ drive_over memory sectors = physical_at_power_on (fresh 64 sectors) (length sect
 
 -- the same beside the plain drive for which it stands
 abbrev pub drives_over : ℕ → List (List ℕ) → Drives
-drives_over memory sectors = drives (drive_at_power_on sectors (length sectors) (replicate memory 0)) (drive_over memory sectors)
+drives_over memory sectors =
+    drives (drive_at_power_on sectors (length sectors) (replicate memory 0)) (drive_over memory sectors)
 
 -- the run is done, with a guest's memory of so many bytes, from the outside before it to that after it:
 pub record IsDone (memory : ℕ) (old new : Outside) : Type 0 where
@@ -58,9 +59,10 @@ pub record IsDone (memory : ℕ) (old new : Outside) : Type 0 where
   pub schedule : IfTold (old.told Schedule) (λ text. IsSchedule text (events_of entries))
   -- the report is the text of the history
   pub report : IfTold (new.told Report) (λ text. text ≡ report_text entries)
-  -- both drives began with the sectors, and event by event the answers and plan lines are those of the plain drive, the physical
-  -- one makes exactly the event's access, step, destage or cut and takes the commands of the command lines, and after a cut the
-  -- plain drive goes on with the physical one's durable sectors
+  -- both drives began with the sectors, and event by event the answers and plan lines are those of the
+  -- plain drive, the physical one makes exactly the event's access, step, destage or cut and takes the
+  -- commands of the command lines, and after a cut the plain drive goes on with the physical one's
+  -- durable sectors
   pub run : IsDirectRun (drives_over memory sectors) entries end
   -- out has the physical drive's durable sectors, which are what a power cut may leave of the plain one
   pub out : IfTold (new.told Out) (λ out. sectors_of_disk out ≡ end.physical.kept.durable)
@@ -72,8 +74,8 @@ pub record IsDone (memory : ℕ) (old new : Outside) : Type 0 where
 
 -- the run ended at a bad line: its number and its kind are those of the schedule's first, and
 pub record IsBadLine (memory : ℕ) (old new : Outside) (number : ℕ) (kind : LineFault) : Type 0 where
-  -- there are the disk's sectors, a history of the events before it, and at its end a plain drive and the physical
-  -- one, which stands for it
+  -- there are the disk's sectors, a history of the events before it, and at its end a plain drive and
+  -- the physical one, which stands for it
   pub sectors : List (List ℕ)
   pub entries : List Entry
   pub end : Drives

@@ -20,7 +20,8 @@ pub record OnlyConsole (old new : Outside) : Type 0 where
 -- this text was appended to Console; or a prefix of it, and the count of Console's writes rose
 abbrev pub IsTold : List ℕ → Outside → Outside → Type 0
 IsTold text old new = Becomes (λ before after. after ≡ before ++ text) (old.told Console) (new.told Console)
-    ⊎ (Rose (old.write_faults Console) (new.write_faults Console) × Becomes (AppendsPrefix text) (old.told Console) (new.told Console))
+    ⊎ (Rose (old.write_faults Console) (new.write_faults Console)
+    × Becomes (AppendsPrefix text) (old.told Console) (new.told Console))
 
 -- a read of this role failed: its count rose, and no other changed but that of Console's writes
 pub record ReadFailed (failed : Role) (old new : Outside) : Type 0 where

@@ -48,7 +48,8 @@ abbrev pub IsLate : Stop → Type 0
 IsLate stop.NoMemory = Unit {0}
 IsLate other = IsPlayStop other
 
--- a stop while image and disk are measured: unsuitable lengths, an image that isn't empty, or a file that can't be read
+-- a stop while image and disk are measured: unsuitable lengths, an image that isn't empty, or a file
+-- that can't be read
 abbrev pub IsEarly : Stop → Type 0
 IsEarly (stop.Unsuitable why) = Unit {0}
 IsEarly stop.NotYet = Unit {0}

@@ -55,7 +55,8 @@ abbrev pub Fetches : Fetched → List ℕ → List ℕ → List ℕ → Type 0
 Fetches fetched.Line line old new = IsOneLine line × (old ≡ line ++ 10 ∷ new)
 Fetches fetched.LastLine line old new = IsOneLine line × (line ≢ []) × (old ≡ line) × (new ≡ [])
 Fetches fetched.Nothing line old new = (old ≡ []) × (new ≡ [])
-Fetches fetched.TooLong line old new = IsOneLine line × (LINE_BYTES ≤ length line) × ((byte : ℕ) × (byte ≢ 10) × (old ≡ line ++ byte ∷ new))
+Fetches fetched.TooLong line old new = IsOneLine line × (LINE_BYTES ≤ length line)
+    × ((byte : ℕ) × (byte ≢ 10) × (old ≡ line ++ byte ∷ new))
 
 -- what the end of the schedule makes of the bytes before it
 abbrev pub fetched_at_end : List ℕ → Fetched

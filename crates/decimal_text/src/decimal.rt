@@ -37,7 +37,8 @@ pub fn is_decimal(text: &[u8]) -> bool
 #[tactic(auto, using(crate::proofs::Decimals::decimals))]
 pub fn value(digits: &[u8]) -> Option<u64>
     requires { IsDecimal digits.now }
-    ensures value { SomeIff result (digits_value 10 digits.now < 2 ^ 64) (digits_value 10 digits.now) }
+    ensures value { SomeIff result
+        (digits_value 10 digits.now < 2 ^ 64) (digits_value 10 digits.now) }
     ensures text { IfSome result (λ n. digits.now ≡ decimal n) }
 {
     match str::from_utf8(digits) {

@@ -28,14 +28,16 @@ FliesIn Idle failed sector sectors = failed ≡ true
 FliesIn (Busy order position) failed sector sectors = IsAtWork sector order position sectors
 FliesIn (Ready order position left) failed sector sectors = IsOffered sector order position left
 
--- the drive is at work on a dummy read, or its interrupt pends for the next poll to find; once it was cancelled nIEN is 1
+-- the drive is at work on a dummy read, or its interrupt pends for the next poll to find; once it was
+-- cancelled nIEN is 1
 pub record IsInFlight (sector : ℕ) (cancelled : Bool) (d : Device) : Type 0 where
   pub selected : has_bit DEV d.file.device ≡ false
   pub stands : FliesIn d.file.phase d.file.failed sector d.sectors
   pub pending : d.file.pending ≡ not (is_at_work d.file.phase)
   pub masked : cancelled ≡ true → masks_line d.file ≡ true
 
--- the drive once a dummy read has ended: its words are taken, and its interrupt is the guest's to acknowledge, or was acknowledged where it was cancelled (own)
+-- the drive once a dummy read has ended: its words are taken, and its interrupt is the guest's to
+-- acknowledge, or was acknowledged where it was cancelled (own)
 abbrev pub ended : Bool → Device → Device
 ended cancelled d = record d { file = record d.file { phase = Idle; pending = not cancelled } }
 

@@ -50,7 +50,8 @@ abbrev pub MadeBy : Bool → Option OwnJob → List ℕ → List Cell → List C
 MadeBy ok None bytes old new = new ≡ old
 MadeBy ok (Some job) bytes old new = Made ok job bytes old new
 
--- a store in which older values were forgotten, as they are where a written one becomes durable (own: the disk model)
+-- a store in which older values were forgotten, as they are where a written one becomes durable (own:
+-- the disk model)
 pub record ForgetsOld (old new : List Cell) : Type 0 where
   pub cells : length new ≡ length old
   pub newest : (s : ℕ) → value_at s new ≡ value_at s old
@@ -63,7 +64,8 @@ pub record HasBitsBetween (area : Area) (k : ℕ) (least most : List Bool) (byte
   pub set_most : (b : ℕ) → b < blocks_of area → b / BLOCKS_OF_SECTOR ≡ k → has_bit bytes b ≡ true
       → has most b ≡ true
 
--- whatever a cut leaves of header and bitmap, the blocks of one set are stored, and no block that another lacks (own)
+-- whatever a cut leaves of header and bitmap, the blocks of one set are stored, and no block that
+-- another lacks (own)
 pub record KeepsBits (area : Area) (id : ℕ) (least most : List Bool) (cells : List Cell) : Type 0 where
   pub reserved : HasReserved area cells
   pub blocks : length least ≡ blocks_of area

@@ -21,7 +21,8 @@ pub record OpeningState : Type 0 where
 abbrev pub opening_at : Area → ℕ → OpeningStep → OpeningState
 opening_at area id step = record { area = area; id = id; step = step }
 
--- a step that an opening comes to: an empty image has none but the end, and each sector of the bitmap is one of its own
+-- a step that an opening comes to: an empty image has none but the end, and each sector of the bitmap is
+-- one of its own
 abbrev pub IsReached : Area → OpeningStep → Type 0
 IsReached area ReadHeader = 0 < area.image
 IsReached area (ReadBits k) = k < bitmap_sectors_of area
@@ -92,7 +93,8 @@ zeros_from area k = if k == bitmap_sectors_of area then FlushZeros else WriteZer
 
 -- the step behind one that was done with these bytes: they say whether the header is the run's (own)
 abbrev pub step_after : Area → ℕ → List ℕ → OpeningStep → OpeningStep
-step_after area id bytes ReadHeader = if bytes_eq bytes (header_of area id) then read_from area 0 else zeros_from area 0
+step_after area id bytes ReadHeader =
+    if bytes_eq bytes (header_of area id) then read_from area 0 else zeros_from area 0
 step_after area id bytes (ReadBits k) = read_from area (k + 1)
 step_after area id bytes (WriteZeros k) = zeros_from area (k + 1)
 step_after area id bytes FlushZeros = WriteHeader

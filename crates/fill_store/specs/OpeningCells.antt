@@ -20,8 +20,8 @@ IsEither old new value = (value ≡ old) ⊎ (value ≡ new)
 abbrev pub alike : List Bool → Sets
 alike set = these_sets set set set
 
--- whatever a cut in an opening leaves: sectors below the reserved ones as they were at power-on, the header old or the
--- run's, and each sector of the bitmap old or zeros (own)
+-- whatever a cut in an opening leaves: sectors below the reserved ones as they were at power-on, the
+-- header old or the run's, and each sector of the bitmap old or zeros (own)
 pub record LeavesOldOrNew (area : Area) (id : ℕ) (disk : List (List ℕ)) (cells : List Cell) : Type 0 where
   pub reserved : HasReserved area cells
   pub others : (s : ℕ) → s < reserved_of area → Each (λ value. value ≡ sector_at s disk) s cells
@@ -31,7 +31,8 @@ pub record LeavesOldOrNew (area : Area) (id : ℕ) (disk : List (List ℕ)) (cel
 
 -- the header is as it was at power-on
 abbrev pub HasOldHeader : Area → List (List ℕ) → List Cell → Type 0
-HasOldHeader area disk cells = Each (λ value. value ≡ sector_at (reserved_of area) disk) (reserved_of area) cells
+HasOldHeader area disk cells =
+    Each (λ value. value ≡ sector_at (reserved_of area) disk) (reserved_of area) cells
 
 -- and so is the bitmap
 abbrev pub HasOldBits : Area → List (List ℕ) → List Cell → Type 0
@@ -58,10 +59,13 @@ CellsAt area id disk FlushZeros cells =
     (¬ HasHeader area id disk) × HasOldHeader area disk cells × HasZeros (bitmap_sectors_of area) area cells
 CellsAt area id disk WriteHeader cells = (¬ HasHeader area id disk) × HasOnlyZeros area cells
 CellsAt area id disk FlushHeader cells =
-    (¬ HasHeader area id disk) × HasOnlyZeros area cells × (value_at (reserved_of area) cells ≡ header_of area id)
-CellsAt area id disk Ended cells = KeepsBits area id (stored_blocks area id disk) (stored_blocks area id disk) cells
+    (¬ HasHeader area id disk) × HasOnlyZeros area cells
+    × (value_at (reserved_of area) cells ≡ header_of area id)
+CellsAt area id disk Ended cells =
+    KeepsBits area id (stored_blocks area id disk) (stored_blocks area id disk) cells
 
--- the blocks in each set of the bitmap at each step: those that were read so far, at the end the stored ones (own)
+-- the blocks in each set of the bitmap at each step: those that were read so far, at the end the stored
+-- ones (own)
 abbrev pub blocks_at : Area → ℕ → List (List ℕ) → OpeningStep → List Bool
 blocks_at area id disk ReadHeader = empty_set (blocks_of area)
 blocks_at area id disk (ReadBits k) = with_sectors k area disk (empty_set (blocks_of area))
@@ -71,13 +75,15 @@ blocks_at area id disk WriteHeader = empty_set (blocks_of area)
 blocks_at area id disk FlushHeader = empty_set (blocks_of area)
 blocks_at area id disk Ended = stored_blocks area id disk
 
--- an opening whose drive had the sectors `disk` at power-on, with the bitmap and the drive's sectors as they are (own)
+-- an opening whose drive had the sectors `disk` at power-on, with the bitmap and the drive's sectors as
+-- they are (own)
 pub record Opens (disk : List (List ℕ)) (o : OpeningState) (sets : Sets) (cells : List Cell) : Type 0 where
   pub bitmap : sets ≡ alike (blocks_at o.area o.id disk o.step)
   pub sectors : LeavesOldOrNew o.area o.id disk cells
   pub step : CellsAt o.area o.id disk o.step cells
 
--- what an opening's job, which ended well or not, made of the drive's sectors; the buffer begins with what it read (own)
+-- what an opening's job, which ended well or not, made of the drive's sectors; the buffer begins with
+-- what it read (own)
 abbrev pub MadeByOpening : Bool → OpeningState → List ℕ → List Cell → List Cell → Type 0
 MadeByOpening ok o buffer old new =
     MadeBy ok (next_in_opening o) (unwrap_or (bytes_to_open o) (take 512 buffer)) old new

@@ -15,8 +15,8 @@ use Rattle.fill_store.specs.Settle.{SettleState, next_in_settling, bytes_to_sett
 abbrev pub HasFrozen : ℕ → Area → Sets → List Cell → Type 0
 HasFrozen n area sets cells = HasBits n (λ k. sector_of k sets.frozen) area cells
 
--- what holds at each step of the bitmap and of the drive, on which the data of the blocks `durable` is durable: no bit
--- is written before the data of the frozen blocks is (own)
+-- what holds at each step of the bitmap and of the drive, on which the data of the blocks `durable` is
+-- durable: no bit is written before the data of the frozen blocks is (own)
 abbrev pub HoldsAt : Area → List Bool → SettleStep → Sets → List Cell → Type 0
 HoldsAt area durable FlushData sets cells = IsWithin durable sets.frozen
 HoldsAt area durable (WriteBits k) sets cells = (durable ≡ sets.frozen) × HasFrozen k area sets cells
@@ -24,9 +24,10 @@ HoldsAt area durable FlushBits sets cells =
     (durable ≡ sets.frozen) × HasFrozen (bitmap_sectors_of area) area sets cells
 HoldsAt area durable Ended sets cells = IsWithin durable sets.frozen
 
--- a settling of the run `id`, with the bitmap and the drive's sectors as they are now: a cut leaves the stored blocks
--- stored, and no block whose data isn't durable (own)
-pub record Settles (id : ℕ) (durable : List Bool) (s : SettleState) (sets : Sets) (cells : List Cell) : Type 0 where
+-- a settling of the run `id`, with the bitmap and the drive's sectors as they are now: a cut leaves the
+-- stored blocks stored, and no block whose data isn't durable (own)
+pub record Settles (id : ℕ) (durable : List Bool) (s : SettleState) (sets : Sets)
+    (cells : List Cell) : Type 0 where
   pub nested : IsNested sets
   pub blocks : blocks_in sets ≡ blocks_of s.area
   pub kept : KeepsBits s.area id sets.stored durable cells
@@ -46,4 +47,5 @@ durable_after false s sets durable = durable
 
 -- what a settling's job, which ended well or not, made of the drive's sectors (own)
 abbrev pub MadeBySettling : Bool → SettleState → Sets → List Cell → List Cell → Type 0
-MadeBySettling ok s sets old new = MadeBy ok (next_in_settling s) (unwrap_or (bytes_to_settle s sets) []) old new
+MadeBySettling ok s sets old new =
+    MadeBy ok (next_in_settling s) (unwrap_or (bytes_to_settle s sets) []) old new

@@ -98,7 +98,8 @@ pub fn a_settling_begins_with_the_filled_blocks()
 /// forgotten because newer ones became durable, and where a sector below the reserved ones is written.
 pub fn a_settling_stands_between_its_jobs()
     ensures in_hand { (id : ℕ) (durable : List Bool) (s : SettleState) (sets : Sets)
-        (old new : List Cell) → Settles id durable s sets old → MadeBySettling false s sets old new →
+        (old new : List Cell) → Settles id durable s sets old
+        → MadeBySettling false s sets old new →
         Settles id durable s sets new }
     ensures forgotten { (id : ℕ) (durable : List Bool) (s : SettleState) (sets : Sets)
         (old new : List Cell) → Settles id durable s sets old → ForgetsOld old new →

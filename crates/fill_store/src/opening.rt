@@ -90,7 +90,8 @@ impl Opening {
         requires blocks { blocks_in bitmap.old ≡ blocks_of self.old.area }
         requires room { 512 ≤ length sector.old }
         ensures state { self.new ≡ opening_after ok (take 512 sector.old) self.old }
-        ensures sets { bitmap.new ≡ sets_after_opening ok (take 512 sector.old) self.old bitmap.old }
+        ensures sets { bitmap.new
+            ≡ sets_after_opening ok (take 512 sector.old) self.old bitmap.old }
         ensures buffer { sector.new ≡ buffer_with (bytes_to_open self.new) sector.old }
         ensures lowered { IsTrue ok → jobs_of_opening self.new < jobs_of_opening self.old }
         ensures failed { ok ≡ false → self.new ≡ self.old }
@@ -252,7 +253,8 @@ fn fill_zeros(buffer: &mut [u8])
 
 fn fill_header(area: &Area, id: u64, buffer: &mut [u8])
     requires { 512 ≤ length buffer.old }
-    ensures buffer { buffer.new ≡ buffer_with (bytes_at area.now id OpeningStep.WriteHeader) buffer.old }
+    ensures buffer { buffer.new
+        ≡ buffer_with (bytes_at area.now id OpeningStep.WriteHeader) buffer.old }
 {
     let mut bytes = [0; 512];
     header(area, id, &mut bytes);

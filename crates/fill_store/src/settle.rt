@@ -172,7 +172,8 @@ fn fill(step: SettleStep, bitmap: &Bitmap, buffer: &mut [u8])
 fn fill_bits(k: u32, bitmap: &Bitmap, buffer: &mut [u8])
     requires there { k < sectors_in bitmap.now }
     requires room { 512 ≤ length buffer.old }
-    ensures buffer { buffer.new ≡ buffer_with (bytes_at (SettleStep.WriteBits k) bitmap.now) buffer.old }
+    ensures buffer { buffer.new
+        ≡ buffer_with (bytes_at (SettleStep.WriteBits k) bitmap.now) buffer.old }
 {
     let mut bytes = [0; 512];
     bitmap.frozen_sector(k, &mut bytes);

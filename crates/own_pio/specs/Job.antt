@@ -20,7 +20,8 @@ count_of (Read first count) = count
 count_of (Write first count) = count
 count_of Flush = 0
 
--- how many polls that aren't Waiting a job takes: one for each block, and one more where the drive is at work after the last (own)
+-- how many polls that aren't Waiting a job takes: one for each block, and one more where the drive is at
+-- work after the last (own)
 abbrev pub polls_of : OwnJob → ℕ
 polls_of (Read first count) = count
 polls_of (Write first count) = count + 1
@@ -34,8 +35,10 @@ command_of Flush = 231
 
 -- what a job asks the drive for
 abbrev pub request_of : OwnJob → Request
-request_of (Read first count) = record { kind = kind.Read; form = PioIn; extended = false; first = first; count = count }
-request_of (Write first count) = record { kind = kind.Write; form = PioOut; extended = false; first = first; count = count }
+request_of (Read first count) =
+    record { kind = kind.Read; form = PioIn; extended = false; first = first; count = count }
+request_of (Write first count) =
+    record { kind = kind.Write; form = PioOut; extended = false; first = first; count = count }
 request_of Flush = record { kind = kind.Flush; form = NoMove; extended = false; first = 0; count = 0 }
 
 -- the order that a drive of so many sectors makes of it

@@ -16,9 +16,11 @@ use Rattle.own_pio.specs.Poll.{done_by}
 -- a store after so many sectors of the bytes were written to it, from the first one on
 abbrev pub written_over : ℕ → ℕ → List ℕ → List Cell → List Cell
 written_over first zero bytes cells = cells
-written_over first (suc n) bytes cells = appended (first + n) (bytes_of (words_at 256 (512 * n) bytes)) (written_over first n bytes cells)
+written_over first (suc n) bytes cells =
+    appended (first + n) (bytes_of (words_at 256 (512 * n) bytes)) (written_over first n bytes cells)
 
--- how many of the blocks of a write that went are in their cells: while the drive is at work, and where it gave up, the last one isn't
+-- how many of the blocks of a write that went are in their cells: while the drive is at work, and where
+-- it gave up, the last one isn't
 abbrev pub stored_in : Phase → Bool → ℕ → ℕ
 stored_in Reset failed done = done - 1
 stored_in Idle true done = done - 1
@@ -37,7 +39,8 @@ flushed_in (Ready order position left) failed cells = cells
 -- the store of a job of which so many blocks went, by its bytes and the store at its begin
 abbrev pub cells_in : Phase → Bool → OwnJob → ℕ → List ℕ → List Cell → List Cell
 cells_in phase failed (Read first count) done bytes origin = origin
-cells_in phase failed (Write first count) done bytes origin = written_over first (stored_in phase failed done) bytes origin
+cells_in phase failed (Write first count) done bytes origin =
+    written_over first (stored_in phase failed done) bytes origin
 cells_in phase failed Flush done bytes origin = flushed_in phase failed origin
 
 -- the drive is at work on a block that went, which it has still to write
@@ -49,10 +52,13 @@ holds_block (Busy order position) (Write first count) done = not (done == 0)
 holds_block (Busy order position) Flush done = false
 holds_block (Ready order position left) job done = false
 
--- bytes after so many sectors of a store were read into them, from the first one on; the device's registers don't matter
+-- bytes after so many sectors of a store were read into them, from the first one on; the device's
+-- registers don't matter
 abbrev pub read_over : ℕ → ℕ → List Cell → List ℕ → List ℕ
 read_over first zero cells bytes = bytes
-read_over first (suc n) cells bytes = put_over (512 * n) (bytes_of (words_of (sector_value (first + n) (powered_on cells 0)))) (read_over first n cells bytes)
+read_over first (suc n) cells bytes =
+    put_over (512 * n) (bytes_of (words_of (sector_value (first + n) (powered_on cells 0))))
+    (read_over first n cells bytes)
 
 -- the bytes of a job of which so many blocks went, by those at its begin
 abbrev pub bytes_in : OwnJob → ℕ → List Cell → List ℕ → List ℕ
@@ -60,8 +66,10 @@ bytes_in (Read first count) done cells bytes = read_over first done cells bytes
 bytes_in (Write first count) done cells bytes = bytes
 bytes_in Flush done cells bytes = bytes
 
--- the sectors and the bytes are what a job of which so many blocks went makes of them, and the last block that went is the drive's
-pub record IsKept (job : OwnJob) (done : ℕ) (bytes start : List ℕ) (origin : List Cell) (d : Device) : Type 0 where
+-- the sectors and the bytes are what a job of which so many blocks went makes of them, and the last
+-- block that went is the drive's
+pub record IsKept (job : OwnJob) (done : ℕ) (bytes start : List ℕ) (origin : List Cell)
+    (d : Device) : Type 0 where
   pub cells : d.cells ≡ cells_in d.file.phase d.file.failed job done bytes origin
   pub block : holds_block d.file.phase job done ≡ true → d.block ≡ words_at 256 (512 * (done - 1)) bytes
   pub bytes_are : bytes ≡ bytes_in job done origin start
@@ -78,7 +86,8 @@ pub record IsDone (job : OwnJob) (bytes start : List ℕ) (origin : List Cell) (
   pub bytes_are : bytes ≡ bytes_in job (count_of job) origin start
 
 -- a job that failed: each sector of a write is old or new, and no other changed
-pub record IsFailed (job : OwnJob) (done : ℕ) (bytes start : List ℕ) (origin : List Cell) (d : Device) : Type 0 where
+pub record IsFailed (job : OwnJob) (done : ℕ) (bytes start : List ℕ) (origin : List Cell)
+    (d : Device) : Type 0 where
   pub cells : d.cells ≡ cells_in Idle true job done bytes origin
   pub bytes_are : bytes ≡ bytes_in job done origin start
 

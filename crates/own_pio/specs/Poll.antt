@@ -52,8 +52,10 @@ left_after Failed left = 0
 -- the bytes of a read after a poll: a block that went is the sector's, at its place
 abbrev pub bytes_read : Poll → ℕ → ℕ → Device → List ℕ → List ℕ
 bytes_read Waiting first done d bytes = bytes
-bytes_read Moved first done d bytes = put_over (512 * done) (bytes_of (words_of (sector_value (first + done) d))) bytes
-bytes_read Done first done d bytes = put_over (512 * done) (bytes_of (words_of (sector_value (first + done) d))) bytes
+bytes_read Moved first done d bytes =
+    put_over (512 * done) (bytes_of (words_of (sector_value (first + done) d))) bytes
+bytes_read Done first done d bytes =
+    put_over (512 * done) (bytes_of (words_of (sector_value (first + done) d))) bytes
 bytes_read Failed first done d bytes = bytes
 
 -- the bytes of a job after a poll; those of a write stay

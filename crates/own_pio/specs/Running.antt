@@ -13,7 +13,8 @@ use Rattle.own_pio.specs.declared.job.OwnJob.TheVariants.{Read, Write, Flush}
 use Rattle.own_pio.specs.Job.{moves_blocks, count_of, order_of, request_of, command_of}
 use Rattle.own_pio.specs.Named.{nien_of}
 
--- a job of which so many blocks went has come to its end where the drive is idle: a read ends with its last block, in the poll that takes it
+-- a job of which so many blocks went has come to its end where the drive is idle: a read ends with its
+-- last block, in the poll that takes it
 abbrev pub may_end : OwnJob → ℕ → Bool
 may_end (Read first count) done = false
 may_end (Write first count) done = done == count
@@ -47,7 +48,8 @@ StandsIn Idle job done d = (d.file.failed || may_end job done) ≡ true
 StandsIn (Busy order position) job done d = IsAtWork job done order position d
 StandsIn (Ready order position left) job done d = IsOffered job done order position left d
 
--- the drive has a job's command in hand, of which so many blocks went, or has ended it unseen; nIEN is 1, so the guest sees nothing of it
+-- the drive has a job's command in hand, of which so many blocks went, or has ended it unseen; nIEN is
+-- 1, so the guest sees nothing of it
 pub record IsRunning (job : OwnJob) (done : ℕ) (d : Device) : Type 0 where
   pub masked : d.file.control ≡ 2
   pub selected : has_bit DEV d.file.device ≡ false

@@ -28,7 +28,8 @@ pub(crate) fn put_block<P: Ports>(ports: &mut P, bytes: &[u8], start: usize)
     requires wanted { IsWantedWhole (P.device ports.old) }
     requires room { start + 512 ≤ length bytes.now }
     ensures after { let d = P.device ports.old in P.device ports.new
-        ≡ with_phase (phase_wanted d.file.phase 0) (record d { block = words_at 256 start bytes.now }) }
+        ≡ with_phase (phase_wanted d.file.phase 0)
+        (record d { block = words_at 256 start bytes.now }) }
     ensures rest { P.rest ports.new ≡ P.rest ports.old }
 {
     for i in 0..256usize {

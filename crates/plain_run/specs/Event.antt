@@ -24,7 +24,8 @@ memory_read address n memory = map (byte_at memory) (range_with_len address n)
 abbrev pub memory_written : ℕ → List ℕ → List ℕ → List ℕ
 memory_written address bytes memory = scattered (range_with_len address (length bytes)) bytes memory
 
--- what a guest's event answers, where it is a read; the table pointer has its most significant byte first, as the schedule writes it (own)
+-- what a guest's event answers, where it is a read; the table pointer has its most significant byte
+-- first, as the schedule writes it (own)
 abbrev pub answer_to : Event → Plain → List (List ℕ)
 answer_to (event.Read8 r) p = (byte_read r p.device ∷ []) ∷ []
 answer_to (event.Write8 r v) p = []
@@ -82,7 +83,8 @@ restarted outcome p = drive_at_power_on outcome p.device.sectors (zeroed p.memor
 
 -- an event leads a plain drive from old to new, but for its plan: after a cut it begins with a cut outcome
 abbrev pub Reaches : Bool → Event → Plain → Plain → Type 0
-Reaches true one old new = (outcome : List (List ℕ)) × IsOutcome old.device.cells outcome × (new ≡ restarted outcome old)
+Reaches true one old new = (outcome : List (List ℕ)) × IsOutcome old.device.cells outcome
+    × (new ≡ restarted outcome old)
 Reaches false one old new = new ≡ accessed one old
 
 -- the plain drive after so many good steps

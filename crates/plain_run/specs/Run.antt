@@ -58,7 +58,8 @@ pub record DriveEvent (old : Physical) (entry : Entry) (new : Physical) : Type 0
 -- the entries, the newest first, lead a physical drive from start to now, one event after the other
 abbrev pub IsDriveRun : Physical → List Entry → Physical → Type 0
 IsDriveRun start [] now = now ≡ start
-IsDriveRun start (entry ∷ earlier) now = (before : Physical) × IsDriveRun start earlier before × DriveEvent before entry now
+IsDriveRun start (entry ∷ earlier) now = (before : Physical) × IsDriveRun start earlier before
+    × DriveEvent before entry now
 
 -- a plain drive, and the physical one that stands for it
 pub record Drives : Type 0 where
@@ -81,10 +82,13 @@ pub record DirectEvent (old : Drives) (entry : Entry) (new : Drives) : Type 0 wh
 -- the entries, the newest first, lead both from start to now, one event after the other
 abbrev pub IsDirectRun : Drives → List Entry → Drives → Type 0
 IsDirectRun start [] now = now ≡ start
-IsDirectRun start (entry ∷ earlier) now = (before : Drives) × IsDirectRun start earlier before × DirectEvent before entry now
+IsDirectRun start (entry ∷ earlier) now = (before : Drives) × IsDirectRun start earlier before
+    × DirectEvent before entry now
 
--- a plain run beside a physical drive's run with the same entries, to a plain drive for which the physical one stands then
-pub record HasPlainRun (start : Plain) (physical : Physical) (entries : List Entry) (now : Physical) : Type 0 where
+-- a plain run beside a physical drive's run with the same entries, to a plain drive for which the
+-- physical one stands then
+pub record HasPlainRun (start : Plain) (physical : Physical) (entries : List Entry)
+    (now : Physical) : Type 0 where
   pub plain : Plain
   pub run : IsDirectRun (drives start physical) entries (drives plain now)
   pub stands : StandsFor now plain

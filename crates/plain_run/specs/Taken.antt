@@ -11,7 +11,8 @@ use Rattle.schedule_text.specs.declared.Item.TheVariants as item
 
 -- what a report says of a taken command: its byte and its range, 0 and 0 where it has none or is refused (own)
 abbrev pub command_item : ℕ → Taken → Item
-command_item byte (Good order) = if has_range order.kind then item.Command byte order.first order.count else item.Command byte 0 0
+command_item byte (Good order) =
+    if has_range order.kind then item.Command byte order.first order.count else item.Command byte 0 0
 command_item byte (Bad reason) = item.Command byte 0 0
 
 -- a command was just taken: the drive is busy with it at position 0

@@ -27,9 +27,15 @@ shown_bytes f = shown f f.count ∷ shown f f.low ∷ shown f f.mid ∷ shown f 
 
 -- registers as they are read
 abbrev pub as_read : TaskFile → TaskFile
-as_read f = record f { count = both_bytes f.count; low = both_bytes f.low; mid = both_bytes f.mid; high = both_bytes f.high }
+as_read f = record f {
+  count = both_bytes f.count;
+  low = both_bytes f.low;
+  mid = both_bytes f.mid;
+  high = both_bytes f.high;
+}
 
--- the registers of the view after a take: the drive's, with the byte of the last command given, which no register shows
+-- the registers of the view after a take: the drive's, with the byte of the last command given, which no
+-- register shows
 abbrev pub file_taken : TaskFile → TaskFile → TaskFile
 file_taken kept f = record (as_read f) { command = kept.command }
 
@@ -41,7 +47,8 @@ after_take d = with_bus (walk_stopped d.bus) d
 abbrev pub IsOrdered : View → ℕ → ℕ → Type 0
 IsOrdered v command sectors = v.file.phase ≡ Busy (taken (order_of command (inputs v.file) sectors)) 0
 
--- the drive's bus master after a give: the view's where the command uses it, with the drive's own error and interrupt bits
+-- the drive's bus master after a give: the view's where the command uses it, with the drive's own error
+-- and interrupt bits
 abbrev pub bus_given : View → Bus → Bus
 bus_given v b = if uses_bus v then record v.bus { error = b.error; interrupt = b.interrupt } else b
 
@@ -53,10 +60,15 @@ after_give v command d = record d { file = record v.file { command = command }; 
 abbrev pub shows_well : TaskFile → Bool
 shows_well f = (status f == 80) && (f.error == 0)
 
--- a guest would see nothing of the monitor's going: all is well in the view, nothing pends, no walk was begun, and no own command stands (own)
+-- a guest would see nothing of the monitor's going: all is well in the view, nothing pends, no walk was
+-- begun, and no own command stands (own)
 abbrev pub is_clean : View → Bool → Bool
 is_clean v own = shows_well v.file && not v.file.pending && not v.bus.start && not v.bus.error && not own
 
--- the drive after the monitor's removal: over the registers and the bus master of the view, with its own error and interrupt bits
+-- the drive after the monitor's removal: over the registers and the bus master of the view, with its own
+-- error and interrupt bits
 abbrev pub after_remove : View → Device → Device
-after_remove v d = record d { file = record v.file { command = d.file.command }; bus = record v.bus { error = d.bus.error; interrupt = d.bus.interrupt } }
+after_remove v d = record d {
+  file = record v.file { command = d.file.command };
+  bus = record v.bus { error = d.bus.error; interrupt = d.bus.interrupt };
+}

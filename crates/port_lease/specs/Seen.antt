@@ -19,7 +19,8 @@ pub record Seen : Type 0 where
 abbrev pub seen_of : Device → Seen
 seen_of d = record { file = d.file; bus = d.bus; line = line d.file }
 
--- a bus master as the guest sees it beside the drive's: the interrupt bit is the drive's, and the error bit is 1 where one of both is (own)
+-- a bus master as the guest sees it beside the drive's: the interrupt bit is the drive's, and the error
+-- bit is 1 where one of both is (own)
 abbrev pub bus_beside : Bus → Bus → Bus
 bus_beside kept drives = record kept { error = kept.error || drives.error; interrupt = drives.interrupt }
 

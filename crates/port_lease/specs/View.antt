@@ -19,7 +19,8 @@ use Rattle.port_lease.specs.declared.view.View.{View}
 abbrev pub IsLawfulView : View → Type 0
 IsLawfulView v = HasLawfulRegisters v.file v.bus
 
--- the command given is one whose sectors the bus master moves; on the guest's side the drive's bus master is then the guest's (own)
+-- the command given is one whose sectors the bus master moves; on the guest's side the drive's bus
+-- master is then the guest's (own)
 abbrev pub uses_bus : View → Bool
 uses_bus v = is_moving v.file.phase
 
@@ -63,7 +64,8 @@ is_walk_access access.ReadPointer = true
 is_walk_access (access.WritePointer v) = true
 is_walk_access access.Line = false
 
--- the drive after a guest's access on its side: all reach it, but for those to a bus master that is the view's (own)
+-- the drive after a guest's access on its side: all reach it, but for those to a bus master that is the
+-- view's (own)
 abbrev pub reached : View → Access → Device → Device
 reached v a d = if is_walk_access a && not (uses_bus v) then d else accessed a d
 
@@ -93,7 +95,8 @@ is_command access.Line = false
 abbrev pub control_kept : ℕ → TaskFile → TaskFile
 control_kept v f = record f { control = bit_and v 134; features = if has_bit SRST v then 0 else f.features }
 
--- what is kept of the registers after a write to one, by the drive's phase: where the drive ignores it nothing changes
+-- what is kept of the registers after a write to one, by the drive's phase: where the drive ignores it
+-- nothing changes
 abbrev pub file_kept : Reg → ℕ → Phase → TaskFile → TaskFile
 file_kept reg.Error v phase f = if is_at_work phase then f else record (hob_cleared f) { features = v }
 file_kept reg.Count v phase f = if is_at_work phase then f else hob_cleared f
@@ -106,7 +109,8 @@ file_kept reg.Alternate v phase f = control_kept v f
 file_kept reg.BusCommand v phase f = f
 file_kept reg.BusStatus v phase f = f
 
--- the bus master that the view keeps, after a write to one of its registers: error and interrupt bit are cleared in both, and all else where the bus master is the view's
+-- the bus master that the view keeps, after a write to one of its registers: error and interrupt bit are
+-- cleared in both, and all else where the bus master is the view's
 abbrev pub bus_kept : Reg → ℕ → View → Bus
 bus_kept r value v = if is_of_walk r && uses_bus v then v.bus else bus_written r value v.bus
 

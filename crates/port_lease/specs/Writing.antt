@@ -27,9 +27,11 @@ is_plain_register reg.BusStatus = false
 abbrev pub plainly_written : Reg → ℕ → Device → Device
 plainly_written r v d = if is_at_work d.file.phase then d else record d { file = stored r v d.file }
 
--- the drive after it was found out whether it is at work: with DEV at 1 by writes, which make HOB 0 where they are taken
+-- the drive after it was found out whether it is at work: with DEV at 1 by writes, which make HOB 0
+-- where they are taken
 abbrev pub asked : Device → Device
-asked d = if selects_absent d.file && not (is_at_work d.file.phase) then record d { file = hob_cleared d.file } else d
+asked d =
+    if selects_absent d.file && not (is_at_work d.file.phase) then record d { file = hob_cleared d.file } else d
 
 -- a drive without a command, without an interrupt, and with Device Control at 00h
 pub record IsAtRest (f : TaskFile) : Type 0 where
@@ -39,7 +41,14 @@ pub record IsAtRest (f : TaskFile) : Type 0 where
 
 -- registers with the bytes of others in all that a command reads
 abbrev pub with_registers : TaskFile → TaskFile → TaskFile
-with_registers g f = record f { features = g.features; count = g.count; low = g.low; mid = g.mid; high = g.high; device = g.device }
+with_registers g f = record f {
+  features = g.features;
+  count = g.count;
+  low = g.low;
+  mid = g.mid;
+  high = g.high;
+  device = g.device;
+}
 
 -- a bus master stopped, with the direction and the pointer of another
 abbrev pub bus_put : Bus → Bus → Bus

@@ -49,7 +49,9 @@ fn put_both<P: Ports>(ports: &mut P, reg: Reg, bytes: [u8; 2])
     requires plain { is_plain_register reg ≡ true }
     requires rests { IsAtRest (P.device ports.old).file }
     ensures put { let d = P.device ports.old in P.device ports.new
-        ≡ record d { file = stored reg (slice_index bytes 0) (stored reg (slice_index bytes 1) d.file) } }
+        ≡ record d {
+          file = stored reg (slice_index bytes 0) (stored reg (slice_index bytes 1) d.file);
+        } }
     ensures rest { P.rest ports.new ≡ P.rest ports.old }
 {
     put(ports, reg, bytes[1]);

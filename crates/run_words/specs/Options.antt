@@ -12,7 +12,8 @@ abbrev pub mode_text : Mode → List ℕ
 mode_text mode.Fresh = codes "fresh"
 mode_text mode.Resume = codes "resume"
 
--- an option's number: its value's, in decimal digits without a leading zero, or the default where it isn't given
+-- an option's number: its value's, in decimal digits without a leading zero, or the default where it
+-- isn't given
 abbrev pub IsNumber : ℕ → Option (List ℕ) → ℕ → Type 0
 IsNumber default None number = number ≡ default
 IsNumber default (Some text) number = text ≡ decimal number
@@ -65,10 +66,23 @@ pub record Choice : Type 0 where
 -- what the options of a run choose
 abbrev pub seen : Options → Choice
 seen o = record {
-  files = record { image = o.image.now; disk = o.disk.now; schedule = o.schedule.now; report = o.report.now; out = o.out.now };
+  files = record {
+    image = o.image.now;
+    disk = o.disk.now;
+    schedule = o.schedule.now;
+    report = o.report.now;
+    out = o.out.now;
+  };
   mode = o.mode;
   id = o.id;
-  sizes = record { block = o.block; gap = o.gap; window = o.window; limit = o.limit; memory = o.memory; pool = o.pool };
+  sizes = record {
+    block = o.block;
+    gap = o.gap;
+    window = o.window;
+    limit = o.limit;
+    memory = o.memory;
+    pool = o.pool;
+  };
 }
 
 -- the five files are given, under five different names
@@ -78,7 +92,8 @@ pub record SaysFiles (given : List Pair) (files : FileNames) : Type 0 where
   pub schedule : value_of given (codes "--schedule") ≡ Some files.schedule
   pub report : value_of given (codes "--report") ≡ Some files.report
   pub out : value_of given (codes "--out") ≡ Some files.out
-  pub different : are_different (files.image ∷ files.disk ∷ files.schedule ∷ files.report ∷ files.out ∷ []) ≡ true
+  pub different : are_different
+      (files.image ∷ files.disk ∷ files.schedule ∷ files.report ∷ files.out ∷ []) ≡ true
 
 -- each of these is given within its bounds, or is its default
 pub record SaysSizes (given : List Pair) (sizes : Sizes) : Type 0 where

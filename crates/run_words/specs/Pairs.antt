@@ -25,7 +25,9 @@ is_joined word = list_any (λ c. c == 61) word
 abbrev pub pairs : List (List ℕ) → List Pair
 pairs [] = []
 pairs (word ∷ []) = split word ∷ []
-pairs (word ∷ next ∷ rest) = if is_joined word then split word ∷ pairs (next ∷ rest) else record { name = word; value = next } ∷ pairs rest
+pairs (word ∷ next ∷ rest) =
+    if is_joined word then split word ∷ pairs (next ∷ rest)
+    else record { name = word; value = next } ∷ pairs rest
 
 -- the value of the first pair with this name
 abbrev pub value_of : List Pair → List ℕ → Option (List ℕ)
@@ -34,8 +36,9 @@ value_of (pair ∷ rest) name = if bytes_eq pair.name name then Some pair.value 
 
 -- the names of the options
 abbrev pub names : List (List ℕ)
-names = codes "--image" ∷ codes "--disk" ∷ codes "--schedule" ∷ codes "--report" ∷ codes "--out" ∷ codes "--mode" ∷ codes "--id"
-    ∷ codes "--block" ∷ codes "--gap" ∷ codes "--window" ∷ codes "--limit" ∷ codes "--memory" ∷ codes "--pool" ∷ []
+names = codes "--image" ∷ codes "--disk" ∷ codes "--schedule" ∷ codes "--report" ∷ codes "--out"
+    ∷ codes "--mode" ∷ codes "--id" ∷ codes "--block" ∷ codes "--gap" ∷ codes "--window"
+    ∷ codes "--limit" ∷ codes "--memory" ∷ codes "--pool" ∷ []
 
 -- a text is the name of an option
 abbrev pub is_name : List ℕ → Bool
@@ -49,4 +52,5 @@ is_value (c ∷ rest) = not (c == 45)
 -- each pair is an option and its value, and no name stands twice
 abbrev pub are_options : List Pair → Bool
 are_options [] = true
-are_options (pair ∷ rest) = is_name pair.name && is_value pair.value && is_none (value_of rest pair.name) && are_options rest
+are_options (pair ∷ rest) =
+    is_name pair.name && is_value pair.value && is_none (value_of rest pair.name) && are_options rest

@@ -63,7 +63,8 @@ fn read_run(words: &[String]) -> Option<Options<'_>>
 #[tactic(auto, using(crate::proofs::Refusals::refusals))]
 fn read_given(given: &[String]) -> Option<Options<'_>>
     ensures found { IfSome result (λ options. SaysPairs (pairs (texts given.now)) (seen options)) }
-    ensures none { IfNone result ((choice : Choice) → ¬ SaysPairs (pairs (texts given.now)) choice) }
+    ensures none { IfNone result
+        ((choice : Choice) → ¬ SaysPairs (pairs (texts given.now)) choice) }
 {
     if !are_options(given) {
         return None;

@@ -37,7 +37,8 @@ FailsWith fault.Form number events left = LineIsDue fault.Form number events lef
 FailsWith fault.Number number events left = LineIsDue fault.Number number events left
 FailsWith fault.TooMany number events left = LineIsDue fault.TooMany number events left
 
--- the text's first lines are those of these events, and the line after them, of this number, is the first bad one
+-- the text's first lines are those of these events, and the line after them, of this number, is the
+-- first bad one
 pub record FailsAt (text : List ℕ) (events : List Event) (number : ℕ) (kind : LineFault) : Type 0 where
   pub left : List ℕ
   pub read : HasRead text left events

@@ -9,7 +9,8 @@ abbrev pub item_text : Item → List ℕ → List ℕ
 item_text item.Answer bytes = codes "o " ++ hex_text bytes
 item_text (item.Go n) bytes = codes "p go " ++ decimal n
 item_text item.Bad bytes = codes "p bad"
-item_text (item.Command byte first count) bytes = codes "c " ++ hex_byte byte ++ 32 ∷ decimal first ++ 32 ∷ decimal count
+item_text (item.Command byte first count) bytes =
+    codes "c " ++ hex_byte byte ++ 32 ∷ decimal first ++ 32 ∷ decimal count
 
 -- a report's line: the number of the event's line, a space, the item and a line feed (own)
 abbrev pub line_text : ℕ → Item → List ℕ → List ℕ

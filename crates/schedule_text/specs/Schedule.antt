@@ -13,13 +13,15 @@ IsOneLine (c ∷ rest) = (c ≢ 10) × IsOneLine rest
 -- the text is the lines of these events, each ended by a line feed
 abbrev pub HasLines : List ℕ → List Event → Type 0
 HasLines text [] = text ≡ []
-HasLines text (one ∷ earlier) = (before line : List ℕ) × HasLines before earlier × IsOneLine line × Says line one × (text ≡ before ++ line ++ 10 ∷ [])
+HasLines text (one ∷ earlier) = (before line : List ℕ) × HasLines before earlier × IsOneLine line
+    × Says line one × (text ≡ before ++ line ++ 10 ∷ [])
 
 -- the text has bytes, and the last of them is no line feed (10)
 abbrev pub IsCutOff : List ℕ → Type 0
 IsCutOff text = (front : List ℕ) × (last : ℕ) × (last ≢ 10) × (text ≡ front ++ last ∷ [])
 
--- the text is the lines of these events and then what is left; nothing is behind a last line that lacks its line feed
+-- the text is the lines of these events and then what is left; nothing is behind a last line that lacks
+-- its line feed
 abbrev pub HasRead : List ℕ → List ℕ → List Event → Type 0
 HasRead text left events = (before : List ℕ) × HasLines before events
     × ((text ≡ before ++ left) ⊎ ((left ≡ []) × (before ≡ text ++ 10 ∷ []) × IsCutOff text))

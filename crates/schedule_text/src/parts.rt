@@ -49,7 +49,8 @@ pub(crate) fn register(name: &[u8]) -> Option<Reg>
 
 // One byte or more, of two digits each.
 pub(crate) fn bytes<const N: usize>(text: &[u8]) -> Option<Bytes<N>>
-    ensures told { MatchOption result ((all : List ℕ) → AreSomeBytes N all → text.now ≢ hex_text all)
+    ensures told { MatchOption result
+        ((all : List ℕ) → AreSomeBytes N all → text.now ≢ hex_text all)
         (λ all. AreSomeBytes N all × (text.now ≡ hex_text all)) }
 {
     if text.is_empty() {

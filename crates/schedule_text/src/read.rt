@@ -167,7 +167,8 @@ fn read_memory(rest: &[u8], event: &mut Event) -> Result<(), LineFault>
 
 fn read_count(address: u32, digits: &[u8], event: &mut Event) -> Result<(), LineFault>
     requires { 14 + length digits.now ≤ LINE_BYTES }
-    ensures reads { ReadsInto (codes "g mr " ++ hex_long address ++ 32 ∷ digits.now) event.new result }
+    ensures reads { ReadsInto (codes "g mr " ++ hex_long address ++ 32 ∷ digits.now)
+        event.new result }
 {
     match number(digits, 1, 2000) {
         Ok(count) => *event = Event::ReadMemory(address, count),

@@ -8,7 +8,8 @@ ghost use Rattle.schedule_text.specs.BadLine.{FailsAt};
 
 /// A text is one schedule at most.
 pub fn one_schedule()
-    ensures once { (text : List ℕ) (a b : List EventOf) → IsSchedule text a → IsSchedule text b → a ≡ b }
+    ensures once { (text : List ℕ) (a b : List EventOf)
+        → IsSchedule text a → IsSchedule text b → a ≡ b }
 {}
 
 /// A text has one first bad line at most: one number, one fault, and the same events before it.
