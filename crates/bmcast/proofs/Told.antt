@@ -1,7 +1,7 @@
 -- Facts of what a host tells.
-use Rattle.std.proofs.Common.{◌≡◌, ℕ, List, Option, Some, None, refl}
+use Rattle.std.proofs.Common.{◌≡◌, ℕ, List, Option, Some, None, refl, ap}
 use Rattle.std.specs.Option.{option_map}
-use Rattle.bm_host.specs.declared.Role.TheVariants.{Image, Disk}
+use Rattle.bm_host.specs.declared.Role.{Role}
 use Rattle.bm_host.specs.Outside.{IfTold, begun}
 
 -- a fact of all lists is one of what is told
@@ -20,10 +20,6 @@ IfTold-both None P Q R joined p q = tt
 IfTold-both (Some x) P Q R joined p q = joined x p q
 
 -- what is begun to be read is as it was
-pub begun_image : (o : Option (List ℕ)) → option_map (begun Image) o ≡ o
-begun_image None = refl
-begun_image (Some bytes) = refl
-
-pub begun_disk : (o : Option (List ℕ)) → option_map (begun Disk) o ≡ o
-begun_disk None = refl
-begun_disk (Some bytes) = refl
+pub begun_kept : (role : Role) → ((bytes : List ℕ) → begun role bytes ≡ bytes) → (o : Option (List ℕ)) → option_map (begun role) o ≡ o
+begun_kept role kept None = refl
+begun_kept role kept (Some bytes) = ap Some (kept bytes)

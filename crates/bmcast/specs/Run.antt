@@ -61,14 +61,14 @@ pub record IsDone (memory : ℕ) (old new : Outside) : Type 0 where
   pub report : IfTold (new.told Report) (λ text. text ≡ report_text entries)
   -- both drives began with the sectors, and event by event the answers and plan lines are those of the
   -- plain drive, the physical one makes exactly the event's access, step, destage or cut and takes the
-  -- commands of the command lines, and after a cut the plain drive goes on with the physical one's
+  -- commands of the `c` lines, and after a cut the plain drive goes on with the physical one's
   -- durable sectors
   pub run : IsDirectRun (drives_over memory sectors) entries end
   -- out has the physical drive's durable sectors, which are what a power cut may leave of the plain one
   pub out : IfTold (new.told Out) (λ out. sectors_of_disk out ≡ end.physical.kept.durable)
   pub whole : IfTold (new.told Out) (λ out. length out ≡ 512 * length sectors)
   pub outcome : IsOutcome end.plain.device.cells end.physical.kept.durable
-  -- a sector that no command line of a write names is the disk's
+  -- a sector that no `c` line of a write names is the disk's
   pub unnamed : (s : ℕ) → is_named s entries ≡ false
       → slice_index_or end.physical.kept.durable s [] ≡ slice_index_or sectors s []
 

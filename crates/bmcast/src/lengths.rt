@@ -1,7 +1,7 @@
 //! The lengths of image and disk, and whether a run can stand on them.
 
-ghost use Rattle.std.specs.Prelude.{◌≡◌, ◌%◌, ◌/◌, ◌≤◌, ◌<◌, length, IfOk, IfErr, OnOk};
-ghost use Rattle.bm_host.specs.Outside.{Outside, Counted, IfTold, Reads};
+ghost use Rattle.std.specs.Prelude.{◌≡◌, ◌%◌, ◌/◌, ◌≤◌, ◌<◌, ℕ, List, length, IfOk, IfErr, OnOk};
+ghost use Rattle.bm_host.specs.Outside.{Outside, Counted, IfTold, Reads, begin_side, begun};
 ghost use Rattle.fill_bitmap.specs.Area.{IsBlock};
 ghost use Rattle.bm_host.specs.declared.Role.TheVariants.{Image, Disk};
 ghost use Rattle.bmcast.specs.Lengths.{CanRun, HasLength, IfLengths, StopsFor, why_of};
@@ -31,10 +31,10 @@ pub fn measure<H: Host>(host: &mut H, options: &Options<'_>) -> Result<u64, Stop
     ensures refused { IfErr result (λ stop.
         IfLengths (H.outside host.old) (StopsFor stop options.now.block)) }
 {
-    let Ok(image) = image_length(host, options.image) else {
+    let Ok(image) = length_of(host, Role::Image, options.image) else {
         return Err(Stop::ReadFault(Role::Image));
     };
-    let Ok(disk) = disk_length(host, options.disk) else {
+    let Ok(disk) = length_of(host, Role::Disk, options.disk) else {
         return Err(Stop::ReadFault(Role::Disk));
     };
     match check(image, disk, options.block) {
@@ -71,24 +71,16 @@ fn why_of(why: Unsuitable) -> Why
     }
 }
 
-#[tactic(auto, using(crate::proofs::Told::begun_image))]
-fn image_length<H: Host>(host: &mut H, name: &str) -> Result<u64, Failed>
-    ensures counts { Counted Reads Image (H.outside host.old) (H.outside host.new) result }
+// Begins a file that is only read, and answers how many bytes it has.
+#[tactic(auto, using(crate::proofs::Told::begun_kept))]
+fn length_of<H: Host>(host: &mut H, role: Role, name: &str) -> Result<u64, Failed>
+    requires side { begin_side role ≡ Reads }
+    requires kept { (bytes : List ℕ) → begun role bytes ≡ bytes }
+    ensures counts { Counted Reads role (H.outside host.old) (H.outside host.new) result }
     ensures files { OnOk result (KeepsAllFiles (H.outside host.old) (H.outside host.new)) }
-    ensures others { KeepsFilesBut Image (H.outside host.old) (H.outside host.new) }
-    ensures length { IfOk result (HasLength Image (H.outside host.old)) }
+    ensures others { KeepsFilesBut role (H.outside host.old) (H.outside host.new) }
+    ensures length { IfOk result (HasLength role (H.outside host.old)) }
 {
-    host.begin(Role::Image, name)?;
-    host.length(Role::Image)
-}
-
-#[tactic(auto, using(crate::proofs::Told::begun_disk))]
-fn disk_length<H: Host>(host: &mut H, name: &str) -> Result<u64, Failed>
-    ensures counts { Counted Reads Disk (H.outside host.old) (H.outside host.new) result }
-    ensures files { OnOk result (KeepsAllFiles (H.outside host.old) (H.outside host.new)) }
-    ensures others { KeepsFilesBut Disk (H.outside host.old) (H.outside host.new) }
-    ensures length { IfOk result (HasLength Disk (H.outside host.old)) }
-{
-    host.begin(Role::Disk, name)?;
-    host.length(Role::Disk)
+    host.begin(role, name)?;
+    host.length(role)
 }
