@@ -71,9 +71,9 @@ pub(crate) fn go<P: Ports>(job: OwnJob, left: u32, ports: &mut P, bytes: &mut [u
     Poll::Done
 }
 
-// Status, whose read acknowledges the command's interrupt.
-fn acknowledge<P: Ports>(ports: &mut P) -> u8
-    requires { (P.device ports.old).file.control ≡ 2 }
+/// Reads Status, which acknowledges the drive's interrupt: none pends then, and the line is low (ATA/ATAPI-6, Status
+/// register).
+pub fn acknowledge<P: Ports>(ports: &mut P) -> u8
     ensures status { result ≡ status (P.device ports.old).file }
     ensures after { let d = P.device ports.old in
         P.device ports.new ≡ record d { file = record d.file { pending = false } } }
