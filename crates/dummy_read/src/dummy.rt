@@ -10,10 +10,9 @@ ghost use Rattle.own_pio.specs.Job.{command_of, order_of};
 ghost use Rattle.dummy_read.specs.Dummy.{sector_of, is_cancelled, job_on};
 ghost use Rattle.dummy_read.specs.Flight.{IsInFlight, ended, silenced};
 
-use crate::ending::acknowledge;
 use ata_taskfile::registers::{NIEN, has_bit};
 use ata_taskfile::{Ports, Reg};
-use own_pio::command_read;
+use own_pio::{acknowledge, command_read};
 use port_lease::MonitorSide;
 
 /// A dummy read that was raised: one sector, read for its interrupt alone.

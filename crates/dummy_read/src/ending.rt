@@ -1,6 +1,6 @@
 //! How a dummy read's command ends.
 
-ghost use Rattle.std.specs.Prelude.{◌≡◌, true, false};
+ghost use Rattle.std.specs.Prelude.{◌≡◌, true};
 ghost use Rattle.ata_taskfile.specs.declared.Phase.TheVariants.{Idle};
 ghost use Rattle.ata_taskfile.specs.Device.{with_phase};
 ghost use Rattle.own_pio.specs.Moving.{IsGivenWhole, phase_left};
@@ -36,13 +36,4 @@ fn drop_block<P: Ports>(ports: &mut P)
     for _ in 0..256usize {
         ports.read_word();
     }
-}
-
-// Status, whose read acknowledges the interrupt.
-pub(crate) fn acknowledge<P: Ports>(ports: &mut P)
-    ensures after { let d = P.device ports.old in
-        P.device ports.new ≡ record d { file = record d.file { pending = false } } }
-    ensures rest { P.rest ports.new ≡ P.rest ports.old }
-{
-    ports.read8(Reg::Status);
 }

@@ -57,8 +57,6 @@ moves_blocks (Read first count) = true
 moves_blocks (Write first count) = true
 moves_blocks Flush = false
 
--- a job as `begin` takes it
+-- a job as `begin` takes it: a command can name the sectors that it moves
 pub record IsFit (job : OwnJob) : Type 0 where
-  pub some : moves_blocks job ≡ true → 0 < count_of job
-  pub few : count_of job ≤ 64
-  pub below : first_of job + count_of job ≤ 2 ^ 28
+  pub named : moves_blocks job ≡ true → IsNamed (first_of job) (count_of job)

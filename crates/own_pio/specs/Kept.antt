@@ -68,7 +68,7 @@ bytes_in Flush done cells bytes = bytes
 
 -- the sectors and the bytes are what a job of which so many blocks went makes of them, and the last
 -- block that went is the drive's
-pub record IsKept (job : OwnJob) (done : ℕ) (bytes start : List ℕ) (origin : List Cell)
+pub record IsDoneSoFar (job : OwnJob) (done : ℕ) (bytes start : List ℕ) (origin : List Cell)
     (d : Device) : Type 0 where
   pub cells : d.cells ≡ cells_in d.file.phase d.file.failed job done bytes origin
   pub block : holds_block d.file.phase job done ≡ true → d.block ≡ words_at 256 (512 * (done - 1)) bytes
@@ -93,7 +93,9 @@ pub record IsFailed (job : OwnJob) (done : ℕ) (bytes start : List ℕ) (origin
 
 -- what a poll that answers so leaves, of a job with so many polls left before it
 abbrev pub Leaves : Poll → OwnJob → ℕ → List ℕ → List ℕ → List Cell → Device → Type 0
-Leaves Waiting job left bytes start origin d = IsKept job (done_by job left) bytes start origin d
-Leaves Moved job left bytes start origin d = IsKept job (done_by job (left - 1)) bytes start origin d
+Leaves Waiting job left bytes start origin d =
+    IsDoneSoFar job (done_by job left) bytes start origin d
+Leaves Moved job left bytes start origin d =
+    IsDoneSoFar job (done_by job (left - 1)) bytes start origin d
 Leaves Done job left bytes start origin d = IsDone job bytes start origin d
 Leaves Failed job left bytes start origin d = IsFailed job (done_by job left) bytes start origin d

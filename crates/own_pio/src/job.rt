@@ -1,5 +1,8 @@
 //! What the monitor has the drive do for itself.
 
+ghost use Rattle.std.specs.Prelude.{◌≡◌};
+ghost use Rattle.own_pio.specs.Job.{IsFit, polls_of};
+
 /// A job of the monitor's own: one command to the drive, which the guest doesn't see (own).
 #[derive(Clone, Copy, Debug, PartialEq, Eq)]
 pub enum OwnJob {
@@ -9,4 +12,18 @@ pub enum OwnJob {
     Write(u64, u32),
     /// Makes all that was written durable.
     Flush,
+}
+
+impl OwnJob {
+    // A poll for each block, and one more where the drive is at work after the last.
+    pub(crate) fn polls(self) -> u32
+        requires { IsFit self }
+        ensures { result ≡ polls_of self }
+    {
+        match self {
+            OwnJob::Read(_, count) => count,
+            OwnJob::Write(_, count) => count + 1,
+            OwnJob::Flush => 1,
+        }
+    }
 }

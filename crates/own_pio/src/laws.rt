@@ -9,7 +9,7 @@ ghost use Rattle.plain_drive.specs.Step.{step_made};
 ghost use Rattle.own_pio.specs.declared.job.OwnJob.{OwnJob as JobOf};
 ghost use Rattle.own_pio.specs.Job.{IsFit};
 ghost use Rattle.own_pio.specs.Running.{IsRunning};
-ghost use Rattle.own_pio.specs.Kept.{IsKept};
+ghost use Rattle.own_pio.specs.Kept.{IsDoneSoFar};
 
 /// Every step, good or failing, leaves an own command running, or ended for the next poll to find.
 pub fn steps_keep_running()
@@ -22,6 +22,6 @@ pub fn steps_keep_running()
 pub fn steps_keep_what_was_done()
     ensures { (job : JobOf) (done : ℕ) (bytes start : List ℕ) (origin : List Cell)
         (step : StepOf) (p : Plain) → IsLawful p.device → IsRunning job done p.device
-        → IsKept job done bytes start origin p.device
-        → IsKept job done bytes start origin (step_made step p).device }
+        → IsDoneSoFar job done bytes start origin p.device
+        → IsDoneSoFar job done bytes start origin (step_made step p).device }
 {}

@@ -16,6 +16,7 @@ pub use commands::command_read;
 pub use job::OwnJob;
 pub use laws::{steps_keep_running, steps_keep_what_was_done};
 pub use own::Own;
+pub use polling::acknowledge;
 
 /// What a poll found.
 #[derive(Clone, Copy, Debug, PartialEq, Eq)]

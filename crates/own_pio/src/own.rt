@@ -28,7 +28,7 @@ impl Own {
     ghost use Rattle.own_pio.specs.Own.{job_of, polls_left, done_of};
     ghost use Rattle.own_pio.specs.Running.{IsRunning};
     ghost use Rattle.own_pio.specs.Poll.{answer_of, goes_on, left_after, bytes_after};
-    ghost use Rattle.own_pio.specs.Kept.{IsKept, Leaves};
+    ghost use Rattle.own_pio.specs.Kept.{IsDoneSoFar, Leaves};
 
     /// Begins a job on a free drive, with nIEN at 1, so that the guest sees nothing of it.
     pub fn begin<P: Ports>(side: &mut MonitorSide, ports: &mut P, job: OwnJob) -> Own
@@ -43,7 +43,7 @@ impl Own {
             ≡ Busy (order_of job (P.device ports.old).sectors) 0 }
         ensures byte { (P.device ports.new).file.command ≡ command_of job }
         ensures kept { (bytes : List ℕ) →
-            IsKept job 0 bytes bytes (P.device ports.old).cells (P.device ports.new) }
+            IsDoneSoFar job 0 bytes bytes (P.device ports.old).cells (P.device ports.new) }
 
         // The guest sees nothing of it, and no sector changes.
         ensures own { has_own side.new ≡ true }
@@ -82,7 +82,8 @@ impl Own {
             ≡ bytes_after (job_of self.old) result (done_of self.old)
             (P.device ports.old) bytes.old }
         ensures kept { (start : List ℕ) (origin : List Cell) →
-            IsKept (job_of self.old) (done_of self.old) bytes.old start origin (P.device ports.old)
+            IsDoneSoFar (job_of self.old) (done_of self.old) bytes.old start origin
+            (P.device ports.old)
             → Leaves result (job_of self.old) (polls_left self.old) bytes.new start origin
             (P.device ports.new) }
 

@@ -2,7 +2,7 @@
 
 ghost use Rattle.std.specs.Prelude.{◌≡◌, ◌<◌, ◌≤◌, ◌*◌, ◌&&◌, ℕ, List, true, false, length};
 ghost use Rattle.ata_taskfile.specs.Device.{Cell};
-ghost use Rattle.own_pio.specs.Kept.{IsKept, Leaves};
+ghost use Rattle.own_pio.specs.Kept.{IsDoneSoFar, Leaves};
 ghost use Rattle.ata_taskfile.specs.TaskFile.{has_bit, status};
 ghost use Rattle.port_lease.specs.Free.{is_free};
 ghost use Rattle.port_lease.specs.Sides.{view_held, has_own};
@@ -53,7 +53,7 @@ pub(crate) fn go<P: Ports>(job: OwnJob, left: u32, ports: &mut P, bytes: &mut [u
         → IsRunning job (done_by job (left_after result left)) (P.device ports.new) }
     ensures free { goes_on result ≡ false → is_free (P.device ports.new).file ≡ true }
     ensures kept { (start : List ℕ) (origin : List Cell) →
-        IsKept job (done_by job left) bytes.old start origin (P.device ports.old)
+        IsDoneSoFar job (done_by job left) bytes.old start origin (P.device ports.old)
         → Leaves result job left bytes.new start origin (P.device ports.new) }
     ensures unseen { IsUnseen (P.device ports.old) (P.device ports.new) }
     ensures rest { P.rest ports.new ≡ P.rest ports.old }
@@ -71,9 +71,9 @@ pub(crate) fn go<P: Ports>(job: OwnJob, left: u32, ports: &mut P, bytes: &mut [u
     Poll::Done
 }
 
-// Status, whose read acknowledges the command's interrupt.
-fn acknowledge<P: Ports>(ports: &mut P) -> u8
-    requires { (P.device ports.old).file.control ≡ 2 }
+/// Reads Status, which acknowledges the drive's interrupt: none pends then, and the line is low (ATA/ATAPI-6, Status
+/// register).
+pub fn acknowledge<P: Ports>(ports: &mut P) -> u8
     ensures status { result ≡ status (P.device ports.old).file }
     ensures after { let d = P.device ports.old in
         P.device ports.new ≡ record d { file = record d.file { pending = false } } }
@@ -98,7 +98,7 @@ fn move_block<P: Ports>(job: OwnJob, left: u32, ports: &mut P, bytes: &mut [u8])
         → IsRunning job (done_by job (left_after result left)) (P.device ports.new) }
     ensures free { goes_on result ≡ false → is_free (P.device ports.new).file ≡ true }
     ensures kept { (start : List ℕ) (origin : List Cell) →
-        IsKept job (done_by job left) bytes.old start origin (P.device ports.old)
+        IsDoneSoFar job (done_by job left) bytes.old start origin (P.device ports.old)
         → Leaves result job left bytes.new start origin (P.device ports.new) }
     ensures unseen { IsUnseen (P.device ports.old) (P.device ports.new) }
     ensures rest { P.rest ports.new ≡ P.rest ports.old }

@@ -33,11 +33,12 @@ abbrev pub asked : Device → Device
 asked d =
     if selects_absent d.file && not (is_at_work d.file.phase) then record d { file = hob_cleared d.file } else d
 
--- a drive without a command, without an interrupt, and with Device Control at 00h
+-- a drive without a command, without an interrupt, and with HOB at 0, so that no write to the command
+-- block changes Device Control; 7Fh is all bits but HOB
 pub record IsAtRest (f : TaskFile) : Type 0 where
   pub idle : f.phase ≡ Idle
   pub unpended : f.pending ≡ false
-  pub control : f.control ≡ 0
+  pub hob : bit_and f.control 127 ≡ f.control
 
 -- registers with the bytes of others in all that a command reads
 abbrev pub with_registers : TaskFile → TaskFile → TaskFile

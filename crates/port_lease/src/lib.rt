@@ -2,9 +2,9 @@
 //!
 //! Each state is a type that can be neither copied nor let go. Start with `guest_side`, `monitor_side` and `gone`
 //! for the types, then `taking`, `giving` and `removing` for the ways from one to the next, and `guest_access` for
-//! what a guest's access does on its own side. `specs/Seen.antt` says what the guest sees on either side,
-//! `specs/Handover.antt` what a change of sides makes of drive and view, and `docs/monitor.md` has the rules as
-//! tables.
+//! what a guest's access does on its own side; `writing` has what the monitor writes to a drive at rest, for its own
+//! commands too. `specs/Seen.antt` says what the guest sees on either side, `specs/Handover.antt` what a change of
+//! sides makes of drive and view, and `docs/monitor.md` has the rules as tables.
 
 #![tactic(auto)]
 
@@ -28,3 +28,4 @@ pub use monitor_side::{MonitorSide, power_on};
 pub use removing::{Unclean, remove};
 pub use taking::{Busy, take};
 pub use view::View;
+pub use writing::{put_command, put_control, put_register};

@@ -22,8 +22,9 @@ pub(crate) fn stop_walk<P: Ports>(ports: &mut P)
     ports.write8(Reg::BusCommand, command & !START);
 }
 
-// Device Control of a drive without an interrupt, so that the line stays low.
-pub(crate) fn put_control<P: Ports>(ports: &mut P, v: u8)
+/// Writes Device Control, which keeps HOB and nIEN of `v`, of a drive without an interrupt, so that the line stays low
+/// (ATA/ATAPI-6, Device Control register). SRST at 1 would begin a reset.
+pub fn put_control<P: Ports>(ports: &mut P, v: u8)
     requires unpended { (P.device ports.old).file.pending ≡ false }
     requires no_reset { has_bit 4 v ≡ false }
     ensures put { let d = P.device ports.old in
@@ -33,8 +34,9 @@ pub(crate) fn put_control<P: Ports>(ports: &mut P, v: u8)
     ports.write8(Reg::Alternate, v);
 }
 
-// One byte of a drive at rest.
-fn put<P: Ports>(ports: &mut P, reg: Reg, v: u8)
+/// Writes a register of the command block other than Command, of a drive at rest. In one of two bytes the byte
+/// becomes the current one, and what was current the previous one (ATA/ATAPI-6, 48-bit Address feature set).
+pub fn put_register<P: Ports>(ports: &mut P, reg: Reg, v: u8)
     requires plain { is_plain_register reg ≡ true }
     requires rests { IsAtRest (P.device ports.old).file }
     ensures put { let d = P.device ports.old in
@@ -54,8 +56,8 @@ fn put_both<P: Ports>(ports: &mut P, reg: Reg, bytes: [u8; 2])
         } }
     ensures rest { P.rest ports.new ≡ P.rest ports.old }
 {
-    put(ports, reg, bytes[1]);
-    put(ports, reg, bytes[0]);
+    put_register(ports, reg, bytes[1]);
+    put_register(ports, reg, bytes[0]);
 }
 
 // All that a command reads, into a drive at rest.
@@ -65,16 +67,17 @@ pub(crate) fn put_registers<P: Ports>(ports: &mut P, file: &TaskFile)
         P.device ports.new ≡ record d { file = with_registers file.now d.file } }
     ensures rest { P.rest ports.new ≡ P.rest ports.old }
 {
-    put(ports, Reg::Error, file.features);
+    put_register(ports, Reg::Error, file.features);
     put_both(ports, Reg::Count, file.count);
     put_both(ports, Reg::Low, file.low);
     put_both(ports, Reg::Mid, file.mid);
     put_both(ports, Reg::High, file.high);
-    put(ports, Reg::Device, file.device);
+    put_register(ports, Reg::Device, file.device);
 }
 
-// A command for a drive at rest whose Device register names it.
-pub(crate) fn put_command<P: Ports>(ports: &mut P, command: u8)
+/// Writes Command of a drive at rest with DEV at 0. The drive is then at work on the order that `command` gives over
+/// its registers, or on its refusal; Error is 00h, and no other register changes (ATA/ATAPI-6, Command register).
+pub fn put_command<P: Ports>(ports: &mut P, command: u8)
     requires rests { IsAtRest (P.device ports.old).file }
     requires selected { has_bit 16 (P.device ports.old).file.device ≡ false }
     ensures taken { let d = P.device ports.old in P.device ports.new ≡ record d {

@@ -2,4 +2,4 @@ use Rattle.own_pio.proofs.Named.{dev_clear}
 use Rattle.own_pio.proofs.commands.name_sectors.Goals as goal
 
 pub returns-clause-selected : goal.returns-clause-selected
-returns-clause-selected g c = rw c.put-5.ensures.put (dev_clear c.args.first c.args.count c.requires.named)
+returns-clause-selected g c = rw c.put_register-5.ensures.put (dev_clear c.args.first c.args.count c.requires.named)
