@@ -9,7 +9,7 @@ ghost use Rattle.port_lease.specs.Lending.{LendsView};
 use crate::View;
 use ata_taskfile::{Bus, TaskFile};
 
-/// The monitor has the drive, and the guest's accesses work on the view.
+/// The monitor has the drive, and the view is what the guest is to see.
 ///
 /// It can be neither copied nor let go: `give` and `remove` end it, or `end` at a power cut.
 pub struct MonitorSide {
