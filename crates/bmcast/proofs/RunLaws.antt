@@ -17,7 +17,7 @@ use Rattle.plain_run.proofs.Named.{only_named, run_whole}
 use Rattle.bmcast.specs.declared.streams.Streams.{Streams}
 use Rattle.bmcast.specs.Streams.{unread, Appends, KeepsAllFiles, KeepsFiles, KeepsFilesBut, KeepsSaid}
 use Rattle.bmcast.specs.Played.{HasPlayed, HasEnded}
-use Rattle.bmcast.specs.Run.{IsReady, IsReported, IsStopped, IsDone, IsBadLine, RunIsBad, drive_over, drives_over, sectors_of_disk}
+use Rattle.bmcast.specs.Run.{IsReady, IsReported, IsStopped, WasRun, IsDone, IsBadLine, RunIsBad, drive_over, drives_over, sectors_of_disk}
 use Rattle.schedule_text.specs.declared.LineFault.{LineFault}
 use Rattle.schedule_text.specs.BadLine.{FailsAt}
 use Rattle.bmcast.specs.BadLine.{HasFailed}
@@ -105,6 +105,20 @@ out_sectors out sectors whole written =
     let count : length out / 512 ≡ length sectors = omega arith in
     rw (count, written) (sectors_in-concat sectors whole)
 
+-- what was run from the drive that was made of the disk
+abbrev was_run : (memory : ℕ) (o1 o2 : Outside) (before after : Physical) (entries : List Entry)
+    → LeavesFiles status.Done o1 o2 → IsLoaded memory o2 before → IsDriveRun before entries after → WasRun memory o1
+was_run memory o1 o2 before after entries left was run =
+    let plain = beside memory before after entries was.began run in
+    record {
+      sectors = before.kept.durable;
+      entries = entries;
+      end = drives plain.plain after;
+      stands = plain.stands;
+      read = subst (λ o. IfTold o (λ disk. before.kept.durable ≡ sectors_of_disk disk)) (left Disk read_disk) was.disk;
+      run = plain.run;
+    }
+
 -- all steps of a run from the moment at which image and disk are known
 pub done : (o1 o2 o3 o4 o5 : Outside) (before after : Physical) (memory : ℕ)
     → LeavesFiles status.Done o1 o2 → SameBytes o2 o3 → KeepsFiles o3 o4 → KeepsFilesBut Out o4 o5
@@ -116,14 +130,9 @@ done o1 o2 o3 o4 o5 before after memory left loaded played written was told out 
     let whole = run_whole 64 before.kept.durable (replicate memory 0) told.entries after was.sectors run in
     let count = run_length before after told.entries told.run in
     record {
-      sectors = before.kept.durable;
-      entries = told.entries;
-      end = drives plain.plain after;
-      stands = plain.stands;
-      read = subst (λ o. IfTold o (λ disk. before.kept.durable ≡ sectors_of_disk disk)) (left Disk read_disk) was.disk;
+      was = was_run memory o1 o2 before after told.entries left was told.run;
       schedule = subst (λ o. IfTold o (λ text. IsSchedule text (events_of told.entries))) (loaded.told Schedule ∙ left Schedule read_schedule) told.schedule;
       report = subst (λ o. IfTold o (λ text. text ≡ report_text told.entries)) (sym (written Report (λ e. cc))) told.report;
-      run = plain.run;
       out = IfTold-weaker (o5.told Out) _ _ (λ bytes e. out_sectors bytes after.kept.durable whole e) out;
       whole = IfTold-weaker (o5.told Out) _ _ (λ bytes e. ap length e ∙ length-sectors after.kept.durable whole ∙ ap (λ n. 512 * n) count) out;
       outcome = durable_are_outcome after plain.plain plain.stands;
@@ -134,61 +143,52 @@ done o1 o2 o3 o4 o5 before after memory left loaded played written was told out 
 pub bad_line : (o1 o2 o3 o4 : Outside) (before after : Physical) (memory number : ℕ) (kind : LineFault)
     → LeavesFiles status.Done o1 o2 → SameBytes o2 o3 → IsLoaded memory o2 before
     → IsStopped o3 o4 before after number kind → IsBadLine memory o1 o4 number kind
-bad_line o1 o2 o3 o4 before after memory number kind left loaded was told =
-    let plain = beside memory before after told.entries was.began told.run in
-    record {
-      sectors = before.kept.durable;
-      entries = told.entries;
-      end = drives plain.plain after;
-      stands = plain.stands;
-      read = subst (λ o. IfTold o (λ disk. before.kept.durable ≡ sectors_of_disk disk)) (left Disk read_disk) was.disk;
-      schedule = subst (λ o. IfTold o (λ text. FailsAt text (events_of told.entries) number kind)) (loaded.told Schedule ∙ left Schedule read_schedule) told.schedule;
-      report = told.report;
-      run = plain.run;
-    }
+bad_line o1 o2 o3 o4 before after memory number kind left loaded was told = record {
+  was = was_run memory o1 o2 before after told.entries left was told.run;
+  schedule = subst (λ o. IfTold o (λ text. FailsAt text (events_of told.entries) number kind))
+      (loaded.told Schedule ∙ left Schedule read_schedule) told.schedule;
+  report = told.report;
+}
 
 -- the same from the start of the run, when no file had changed
-pub done_from : (memory : ℕ) (o0 o1 o5 : Outside) → KeepsAllFiles o0 o1 → IsDone memory o1 o5 → IsDone memory o0 o5
-done_from memory o0 o1 o5 kept was = record {
+abbrev was_run_from : (memory : ℕ) (o0 o1 : Outside) → KeepsAllFiles o0 o1 → WasRun memory o1 → WasRun memory o0
+was_run_from memory o0 o1 kept was = record {
   sectors = was.sectors;
   entries = was.entries;
   end = was.end;
   stands = was.stands;
   read = subst (λ o. IfTold o (λ disk. was.sectors ≡ sectors_of_disk disk)) (kept Disk) was.read;
-  schedule = subst (λ o. IfTold o (λ text. IsSchedule text (events_of was.entries))) (kept Schedule) was.schedule;
-  report = was.report;
   run = was.run;
-  out = was.out;
-  whole = was.whole;
-  outcome = was.outcome;
-  unnamed = was.unnamed;
 }
 
-pub bad_line_since : (memory : ℕ) (o0 o1 o4 : Outside) (number : ℕ) (kind : LineFault) → KeepsAllFiles o0 o1 → IsBadLine memory o1 o4 number kind → IsBadLine memory o0 o4 number kind
+pub done_from : (memory : ℕ) (o0 o1 o5 : Outside) → KeepsAllFiles o0 o1 → IsDone memory o1 o5 → IsDone memory o0 o5
+done_from memory o0 o1 o5 kept done = record {
+  was = was_run_from memory o0 o1 kept done.was;
+  schedule = subst (λ o. IfTold o (λ text. IsSchedule text (events_of done.was.entries))) (kept Schedule) done.schedule;
+  report = done.report;
+  out = done.out;
+  whole = done.whole;
+  outcome = done.outcome;
+  unnamed = done.unnamed;
+}
+
+pub bad_line_since : (memory : ℕ) (o0 o1 o4 : Outside) (number : ℕ) (kind : LineFault) → KeepsAllFiles o0 o1
+    → IsBadLine memory o1 o4 number kind → IsBadLine memory o0 o4 number kind
 bad_line_since memory o0 o1 o4 number kind kept bad = record {
-  sectors = bad.sectors;
-  entries = bad.entries;
-  end = bad.end;
-  stands = bad.stands;
-  read = subst (λ o. IfTold o (λ disk. bad.sectors ≡ sectors_of_disk disk)) (kept Disk) bad.read;
-  schedule = subst (λ o. IfTold o (λ text. FailsAt text (events_of bad.entries) number kind)) (kept Schedule) bad.schedule;
+  was = was_run_from memory o0 o1 kept bad.was;
+  schedule = subst (λ o. IfTold o (λ text. FailsAt text (events_of bad.was.entries) number kind)) (kept Schedule) bad.schedule;
   report = bad.report;
-  run = bad.run;
 }
 
 -- the same after the line on Console
-pub bad_line_told : (words : List (List ℕ)) (o0 o4 o5 : Outside) (number : ℕ) (kind : LineFault) → SameElsewhere Console o4 o5 → RunIsBad words o0 o4 number kind → RunIsBad words o0 o5 number kind
+pub bad_line_told : (words : List (List ℕ)) (o0 o4 o5 : Outside) (number : ℕ) (kind : LineFault) → SameElsewhere Console o4 o5
+    → RunIsBad words o0 o4 number kind → RunIsBad words o0 o5 number kind
 bad_line_told words o0 o4 o5 number kind kept bad = record {
   choice = bad.choice;
   says = bad.says;
   holds = record {
-    sectors = bad.holds.sectors;
-    entries = bad.holds.entries;
-    end = bad.holds.end;
-    stands = bad.holds.stands;
-    read = bad.holds.read;
+    was = bad.holds.was;
     schedule = bad.holds.schedule;
-    run = bad.holds.run;
-    report = subst (λ o. IfTold o (λ text. text ≡ history_text bad.holds.entries)) (sym (kept.told Report (λ e. cc))) bad.holds.report;
+    report = subst (λ o. IfTold o (λ text. text ≡ history_text bad.holds.was.entries)) (sym (kept.told Report (λ e. cc))) bad.holds.report;
   };
 }
