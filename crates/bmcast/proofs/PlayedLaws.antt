@@ -13,12 +13,12 @@ use Rattle.schedule_text.specs.Line.{Says}
 use Rattle.schedule_text.specs.Schedule.{HasNoEnd, HasRead, IsSchedule}
 use Rattle.schedule_text.specs.BadLine.{LineFails, FailsAt}
 use Rattle.plain_run.specs.Entry.{Entry, entry_of, events_of, history_text, items_text}
-use Rattle.plain_run.specs.Run.{DriveEvent, IsDriveRun}
+use Rattle.plain_run.specs.Run.{DriveEvent}
 use Rattle.bmcast.specs.declared.play.Progress.{Progress}
 use Rattle.bmcast.specs.declared.play.Progress.TheVariants as progress
 use Rattle.bmcast.specs.declared.streams.Streams.{Streams}
 use Rattle.bmcast.specs.Streams.{unread, Appends, Said, KeepsFiles, KeepsSaid, KeepsUnread}
-use Rattle.bmcast.specs.Played.{HasPlayed, HasTaken, HasDone, HasDoneEnd, HasEnded, IsNextLine, Leads}
+use Rattle.bmcast.specs.Played.{HasPlayed, HasTaken, HasDone, HasDoneEnd, HasEnded, IsNextLine, IsPlayed, Leads}
 use Rattle.bmcast.specs.BadLine.{HasFailed}
 use Rattle.bmcast.proofs.Told.{IfTold-both, IfTold-weaker}
 use Rattle.bmcast.proofs.Lines.{read_next, fails_next}
@@ -28,6 +28,11 @@ events_length : (entries : List Entry) → length (events_of entries) ≡ length
 events_length [] = refl
 events_length (entry ∷ entries) = ap suc (events_length entries)
 
+-- what was reported stays reported, when nothing else was
+still_played : (start : Physical) (from to : Streams) (old new : Outside) (now : Physical) (entries : List Entry)
+    → KeepsSaid from to old new → IsPlayed start from old now entries → IsPlayed start to new now entries
+still_played start from to old new now entries said was = record { run = was.run; said = said (history_text entries) was.said }
+
 -- the next line was taken
 pub line_taken : (start : Physical) (from to : Streams) (old new : Outside) (now : Physical) (line : List ℕ) (number : ℕ)
     → new.told Schedule ≡ old.told Schedule → KeepsSaid from to old new
@@ -35,7 +40,8 @@ pub line_taken : (start : Physical) (from to : Streams) (old new : Outside) (now
     → HasPlayed start from old now number → HasTaken start to new now line number
 line_taken start from to old new now line number same said taken was = record {
   entries = was.entries;
-  played = record { run = was.played.run; said = said (history_text was.entries) was.played.said; unended = was.played.unended };
+  played = still_played start from to old new now was.entries said was.played;
+  unended = was.unended;
   taken = subst (λ o. IfTold o (λ text. IsNextLine text (unread to new text) (events_of was.entries) line)) (sym same)
       (IfTold-both (old.told Schedule) _ _ _ (λ text one read. one (events_of was.entries) read) taken was.read);
   next = was.next;
@@ -48,10 +54,9 @@ pub none_taken : (start : Physical) (from to : Streams) (old new : Outside) (now
     → HasPlayed start from old now number → HasFailed start to new now number kind
 none_taken start from to old new now number kind same said fails was = record {
   entries = was.entries;
-  run = was.played.run;
+  played = still_played start from to old new now was.entries said was.played;
   fails = subst (λ o. IfTold o (λ text. FailsAt text (events_of was.entries) number kind)) (sym same)
-      (IfTold-both (old.told Schedule) _ _ _ (λ text step read. step (events_of was.entries) was.played.unended (ap (λ k. k + 1) (events_length was.entries) ∙ was.next) read) fails was.read);
-  said = said (history_text was.entries) was.played.said;
+      (IfTold-both (old.told Schedule) _ _ _ (λ text step read. step (events_of was.entries) was.unended (ap (λ k. k + 1) (events_length was.entries) ∙ was.next) read) fails was.read);
 }
 
 -- the line that was taken fails
@@ -59,12 +64,11 @@ pub taken_failed : (start : Physical) (s : Streams) (o : Outside) (now : Physica
     → number ≤ LAST_LINE → bad ≡ number → LineFails kind number line → HasTaken start s o now line number → HasFailed start s o now bad kind
 taken_failed start s o now line number bad kind within is fails was = record {
   entries = was.entries;
-  run = was.played.run;
+  played = was.played;
   fails = subst (λ k. IfTold (o.told Schedule) (λ text. FailsAt text (events_of was.entries) k kind)) (sym is)
       (IfTold-weaker (o.told Schedule) _ _
-      (λ text taken. fails_next text (events_of was.entries) number within was.played.unended (ap (λ k. k + 1) (events_length was.entries) ∙ was.next) kind line (unread s o text) fails taken)
+      (λ text taken. fails_next text (events_of was.entries) number within was.unended (ap (λ k. k + 1) (events_length was.entries) ∙ was.next) kind line (unread s o text) fails taken)
       was.taken);
-  said = was.played.said;
 }
 
 -- it says an event, which was done and reported
@@ -74,11 +78,12 @@ module _ (start : Physical) (from to : Streams) (old new : Outside) (before afte
     (told : Appends from to old new (items_text number items bytes))
     (kept : KeepsUnread from to old new)
     (was : HasTaken start from old before line number) where
-  run_done : IsDriveRun start (entry_of e items bytes ∷ was.entries) after
-  run_done = (before, was.played.run, event)
-
-  said_done : Said to new (history_text (entry_of e items bytes ∷ was.entries))
-  said_done = subst (λ k. Said to new (history_text was.entries ++ items_text k items bytes)) (sym was.next) (told (history_text was.entries) was.played.said)
+  event_done : IsPlayed start to new after (entry_of e items bytes ∷ was.entries)
+  event_done = record {
+    run = (before, was.played.run, event);
+    said = subst (λ k. Said to new (history_text was.entries ++ items_text k items bytes)) (sym was.next)
+        (told (history_text was.entries) was.played.said);
+  }
 
   read_done : IfTold (new.told Schedule) (λ text. HasRead text (unread to new text) (e ∷ events_of was.entries))
   read_done = subst (λ o. IfTold o (λ text. HasRead text (unread to new text) (e ∷ events_of was.entries))) (sym same)
@@ -89,16 +94,16 @@ module _ (start : Physical) (from to : Streams) (old new : Outside) (before afte
   pub line_done : (goes : Progress) → number ≤ LAST_LINE → Leads goes e number → HasDone goes start to new after number
   line_done progress.More within leads = record {
     entries = entry_of e items bytes ∷ was.entries;
-    played = record { run = run_done; said = said_done; unended = (leads.0, was.played.unended) };
+    played = event_done;
+    unended = (leads.0, was.unended);
     read = read_done;
     next = let counted = was.next in omega arith;
   }
   line_done progress.Ended within leads = record {
     entries = entry_of e items bytes ∷ was.entries;
-    run = run_done;
-    said = said_done;
+    played = event_done;
     read = read_done;
-    ended = (leads, (was.played.unended, let counted = was.next in let events = events_length was.entries in omega arith));
+    ended = (leads, (was.unended, let counted = was.next in let events = events_length was.entries in omega arith));
     length = let counted = was.next in omega arith;
   }
 
@@ -108,10 +113,9 @@ pub played_out : (start : Physical) (s to : Streams) (o new : Outside) (now : Ph
     → HasDoneEnd start s o now number → HasEnded start to new now number
 played_out start s to o new now number same nothing said done = record {
   entries = done.entries;
-  run = done.run;
+  played = still_played start s to o new now done.entries said done.played;
   schedule = subst (λ told. IfTold told (λ text. IsSchedule text (events_of done.entries))) (sym same)
       (IfTold-both (o.told Schedule) _ _ _ (λ text read end. (done.ended, subst (λ left. HasRead text left (events_of done.entries)) end read)) done.read nothing);
-  said = said (history_text done.entries) done.said;
   length = done.length;
 }
 
@@ -122,7 +126,7 @@ pub failed_behind : (start : Physical) (s to : Streams) (o new : Outside) (now :
     → HasDoneEnd start s o now number → HasFailed start to new now bad kind
 failed_behind start s to o new now number bad kind same said is trailing some done = record {
   entries = done.entries;
-  run = done.run;
+  played = still_played start s to o new now done.entries said done.played;
   fails = subst (λ k. IfTold (new.told Schedule) (λ text. FailsAt text (events_of done.entries) bad k)) (sym trailing)
       (subst (λ told. IfTold told (λ text. FailsAt text (events_of done.entries) bad fault.Trailing)) (sym same)
       (IfTold-both (o.told Schedule) _ _ _ (λ text read left. record {
@@ -131,7 +135,6 @@ failed_behind start s to o new now number bad kind same said is trailing some do
         next = ap (λ k. k + 1) (events_length done.entries ∙ done.length) ∙ sym is;
         fails = (done.ended, left);
       }) done.read some));
-  said = said (history_text done.entries) done.said;
 }
 
 -- the report is written, and nothing else happens
@@ -140,9 +143,8 @@ pub failed_on : (start : Physical) (s to : Streams) (o new : Outside) (now : Phy
     → HasFailed start s o now number kind → HasFailed start to new now number kind
 failed_on start s to o new now number kind same said failed = record {
   entries = failed.entries;
-  run = failed.run;
+  played = still_played start s to o new now failed.entries said failed.played;
   fails = subst (λ told. IfTold told (λ text. FailsAt text (events_of failed.entries) number kind)) (sym same) failed.fails;
-  said = said (history_text failed.entries) failed.said;
 }
 
 -- so far in the loop over lines: no count rose, no file but the report changed, and the lines before this number were played

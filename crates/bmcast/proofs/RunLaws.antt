@@ -32,8 +32,8 @@ played_none s o p ready none taken = record {
   played = record {
     run = refl;
     said = IfTold-weaker (o.told Report) _ _ (λ written empty. ap (λ xs. written ++ xs) none ∙ append-nil written ∙ empty) ready.report;
-    unended = tt;
   };
+  unended = tt;
   read = IfTold-all (o.told Schedule) _ (λ text. ([], refl, inl (sym (all text))));
   next = refl;
 }
@@ -54,11 +54,11 @@ reported s0 s1 s2 s3 o0 o1 o2 o3 before after number ready none taken ended same
     let h = ended before (played_none s0 o0 before ready none taken) in
     record {
       entries = h.entries;
-      run = h.run;
+      run = h.played.run;
       schedule = subst (λ told. IfTold told (λ text. IsSchedule text (events_of h.entries))) same h.schedule;
       report = IfTold-weaker (o3.told Report) _ _
           (λ written said. sym (append-nil written) ∙ ap (λ xs. written ++ xs) (sym empty) ∙ said ∙ ap (λ n. history_text h.entries ++ end_text n) (sym h.length))
-          (flushed (history_text h.entries ++ end_text number) (end_said (history_text h.entries) h.said));
+          (flushed (history_text h.entries ++ end_text number) (end_said (history_text h.entries) h.played.said));
     }
 
 -- the schedule was played to its first bad line, and the report before it is written
@@ -71,9 +71,9 @@ stopped s0 s1 o0 o1 before after number kind ready none taken failed same empty 
     let h = failed before (played_none s0 o0 before ready none taken) in
     record {
       entries = h.entries;
-      run = h.run;
+      run = h.played.run;
       schedule = subst (λ told. IfTold told (λ text. FailsAt text (events_of h.entries) number kind)) same h.fails;
-      report = IfTold-weaker (o1.told Report) _ _ (λ written said. sym (append-nil written) ∙ ap (λ xs. written ++ xs) (sym empty) ∙ said) h.said;
+      report = IfTold-weaker (o1.told Report) _ _ (λ written said. sym (append-nil written) ∙ ap (λ xs. written ++ xs) (sym empty) ∙ said) h.played.said;
     }
 
 -- a run that is done leaves what it read
