@@ -47,10 +47,6 @@ bytes_left place n i byte memory got more whole below so_far read one =
     let next : place + i + 1 ≡ place + (i + 1) = omega arith in
     rw (one, read) (simp append_assoc (rw next at (rw left at so_far)))
 
--- at the end none is left
-pub no_bytes_left : (place n : ℕ) (memory got whole : List ℕ) → got ++ memory_read (place + n) (n - n) memory ≡ whole → got ≡ whole
-no_bytes_left place n memory got whole so_far = let none : n - n ≡ 0 = omega arith in sym (append-nil got) ∙ (rw none at so_far)
-
 -- where the words that are still to be written lead, after one of them
 pub words_to_write : (left : List ℕ) (k w : ℕ) (now next end : Device) → 2 ≤ length left → k ≡ length left - 2 → w ≡ get_or left 0 0 + 256 * get_or left 1 0
     → next ≡ after_write_word w now → after_written (words_of left) now ≡ end → after_written (words_of (take k (drop 2 left))) next ≡ end

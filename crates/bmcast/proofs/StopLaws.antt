@@ -1,6 +1,6 @@
 -- What several calls owe of the outside, one after the other.
 use Rattle.std.proofs.Common.{◌≡◌, ◌≢◌, ◌≤◌, ◌⊎◌, ◌++◌, ℕ, List, inl, inr, refl, sym, subst, ◌∙◌, arith}
-use Rattle.std.specs.Prelude.{Result, Ok, Err}
+use Rattle.std.specs.Prelude.{Result, Err}
 use Rattle.schedule_text.specs.declared.LineFault.{LineFault}
 use Rattle.bm_host.specs.declared.Role.{Role}
 use Rattle.bm_host.specs.Outside.{Outside, SameElsewhere, SameCounts, Rose, Reads, Writes, Becomes, AppendsPrefix}
@@ -8,7 +8,7 @@ use Rattle.bm_host.specs.declared.Role.TheVariants.{Console}
 use Rattle.bm_host.proofs.OutsideLaws.{same_counts_trans, only_rose_after, same_role}
 use Rattle.bmcast.specs.declared.stop.Stop.{Stop}
 use Rattle.bmcast.specs.declared.stop.Stop.TheVariants as stop
-use Rattle.bmcast.specs.Stop.{Stopped, Ended, OnBadLine, UnlessFault}
+use Rattle.bmcast.specs.Stop.{Stopped, OnBadLine, UnlessFault}
 use Rattle.bmcast.specs.Status.{OnlyConsole, HasItsCause, IsTold, OnBadLineStatus, SameConsole, UnlessDone, status_of}
 use Rattle.bmcast.specs.Kept.{IsLeft, LeavesFiles}
 use Rattle.bmcast.specs.declared.Status.{Status}
@@ -19,11 +19,6 @@ pub stopped_after : (a b c : Outside) (why : Stop) → SameCounts a b → Stoppe
 stopped_after a b c (stop.ReadFault role) same then = only_rose_after Reads role a b c same then
 stopped_after a b c (stop.WriteFault role) same then = only_rose_after Writes role a b c same then
 stopped_after a b c other same then = same_counts_trans a b c same then
-
--- a call after calls that raised no count
-pub ended_after : {T : Type 0} (a b c : Outside) (result : Result T Stop) → SameCounts a b → Ended result b c → Ended result a c
-ended_after a b c (Ok x) same then = same_counts_trans a b c same then
-ended_after a b c (Err why) same then = stopped_after a b c why same then
 
 -- calls that raised no count, and then Console
 console_after : (a b c : Outside) → SameCounts a b → OnlyConsole b c → OnlyConsole a c
