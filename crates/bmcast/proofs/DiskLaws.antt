@@ -10,7 +10,8 @@ use Rattle.bm_host.proofs.OutsideLaws.{same_counts_trans}
 use Rattle.plain_drive.specs.Physical.{Physical}
 use Rattle.plain_drive.specs.Plain.{sectors_in}
 use Rattle.plain_drive.proofs.Sectors.{sectors_in-more}
-use Rattle.bmcast.specs.Streams.{KeepsFilesBut, KeepsWaiting, Waits}
+use Rattle.bmcast.specs.Streams.{KeepsFilesBut}
+use Rattle.bmcast.specs.Waiting.{KeepsWaiting, Waits}
 use Rattle.bmcast.proofs.Told.{IfTold-weaker}
 
 -- so many sectors of the disk were read into a store, and nothing else happened
@@ -25,7 +26,7 @@ pub record WritesFront (old new : Outside) (before now : Physical) (waiting : Li
   pub counts : SameCounts old new
   pub files : KeepsFilesBut Out old new
   pub drive : now ≡ before
-  pub waits : (text : List ℕ) → Waits [] old text → Waits waiting new (text ++ concat (take sectors before.kept.durable))
+  pub waits : (text : List ℕ) → Waits Out [] old text → Waits Out waiting new (text ++ concat (take sectors before.kept.durable))
 
 -- the bytes of one sector more
 concat-more : (list : List (List ℕ)) (i : ℕ) → i < length list → concat (take (i + 1) list) ≡ concat (take i list) ++ slice_index_or list i []
@@ -33,13 +34,13 @@ concat-more list i below = rw (take_more list i []) (concat-append (take i list)
 
 pub WritesFront-more : (old now new : Outside) (before mid after : Physical) (waiting more : List ℕ) (i : ℕ) → i < length before.kept.durable
     → WritesFront old now before mid waiting i → SameCounts now new → KeepsFilesBut Out now new → after ≡ mid
-    → ((text : List ℕ) → Waits waiting now text → Waits more new (text ++ slice_index_or mid.kept.durable i []))
+    → ((text : List ℕ) → Waits Out waiting now text → Waits Out more new (text ++ slice_index_or mid.kept.durable i []))
     → WritesFront old new before after more (i + 1)
 WritesFront-more old now new before mid after waiting more i below so counts files same waits = record {
   counts = same_counts_trans old now new so.counts counts;
   files = λ role other. files role other ∙ so.files role other;
   drive = same ∙ so.drive;
-  waits = λ text was. subst (Waits more new)
+  waits = λ text was. subst (Waits Out more new)
       (append_assoc text (concat (take i before.kept.durable)) (slice_index_or mid.kept.durable i [])
       ∙ ap (λ xs. text ++ xs) (ap (λ (d : Physical). concat (take i before.kept.durable) ++ slice_index_or d.kept.durable i []) so.drive ∙ sym (concat-more before.kept.durable i below)))
       (waits (text ++ concat (take i before.kept.durable)) (so.waits text was));
@@ -47,12 +48,12 @@ WritesFront-more old now new before mid after waiting more i below so counts fil
 
 -- nothing waits any more, and Out was empty: it holds all sectors
 pub WritesFront-all : (old now new : Outside) (before mid : Physical) (waiting rest : List ℕ) (i : ℕ) → length before.kept.durable ≤ i
-    → WritesFront old now before mid waiting i → rest ≡ [] → KeepsWaiting waiting rest now new
+    → WritesFront old now before mid waiting i → rest ≡ [] → KeepsWaiting Out waiting rest now new
     → IfTold (old.told Out) (λ bytes. bytes ≡ []) → IfTold (new.told Out) (λ bytes. bytes ≡ concat before.kept.durable)
 WritesFront-all old now new before mid waiting rest i all so none waits empty =
-    let begun : Waits [] old [] = IfTold-weaker (old.told Out) (λ bytes. bytes ≡ []) (λ bytes. bytes ++ [] ≡ []) (λ bytes e. append-nil bytes ∙ e) empty in
+    let begun : Waits Out [] old [] = IfTold-weaker (old.told Out) (λ bytes. bytes ≡ []) (λ bytes. bytes ++ [] ≡ []) (λ bytes e. append-nil bytes ∙ e) empty in
     let sectors : take i before.kept.durable ≡ before.kept.durable = take_all i before.kept.durable all in
-    let written : Waits [] new (concat before.kept.durable) = subst (λ xs. Waits xs new (concat before.kept.durable)) none (subst (λ xs. Waits rest new (concat xs)) sectors (waits (concat (take i before.kept.durable)) (so.waits [] begun))) in
+    let written : Waits Out [] new (concat before.kept.durable) = subst (λ xs. Waits Out xs new (concat before.kept.durable)) none (subst (λ xs. Waits Out rest new (concat xs)) sectors (waits (concat (take i before.kept.durable)) (so.waits [] begun))) in
     IfTold-weaker (new.told Out) (λ bytes. bytes ++ [] ≡ concat before.kept.durable) (λ bytes. bytes ≡ concat before.kept.durable) (λ bytes e. sym (append-nil bytes) ∙ e) written
 
 -- a sector that was read stands behind those before it
@@ -69,6 +70,6 @@ sector_read_if_told None old new bytes s below set read = tt
 sector_read_if_told (Some disk) old new bytes s below set read = λ front. rw set (sector_read old disk bytes s below read front)
 
 -- bytes that are added to those that wait
-pub Waits-more : (outside : Outside) (waiting text bytes : List ℕ) → Waits waiting outside text → Waits (waiting ++ bytes) outside (text ++ bytes)
+pub Waits-more : (outside : Outside) (waiting text bytes : List ℕ) → Waits Out waiting outside text → Waits Out (waiting ++ bytes) outside (text ++ bytes)
 Waits-more outside waiting text bytes = IfTold-weaker (outside.told Out) (λ written. written ++ waiting ≡ text) (λ written. written ++ (waiting ++ bytes) ≡ text ++ bytes)
     (λ written so. sym (append_assoc written waiting bytes) ∙ ap (λ xs. xs ++ bytes) so)

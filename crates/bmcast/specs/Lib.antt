@@ -1,5 +1,6 @@
 pub mod Machine
 pub mod Stop
+pub mod Waiting
 pub mod Streams
 pub mod Played
 pub mod Lengths

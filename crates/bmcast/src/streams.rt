@@ -3,6 +3,7 @@
 ghost use Rattle.std.specs.Prelude.{◌≡◌, ◌≢◌, ◌≤◌, ◌<◌, ◌+◌, ◌++◌, ℕ, List, [], ◌∷◌, length, IfErr, IfOk, OnOk, MatchOption};
 
 use crate::stop::Stop;
+use crate::waiting::{make_room, write_waiting};
 use arrayvec::ArrayVec;
 use bm_host::{Host, Role};
 use schedule_text::{Emitted, Item, LINE_BYTES, write_end, write_item};
@@ -68,14 +69,7 @@ impl Streams {
         ensures schedule { (H.outside host.new).given Schedule
             ≡ (H.outside host.old).given Schedule }
     {
-        if self.pending.is_empty() {
-            return Ok(());
-        }
-        let Ok(()) = host.write_next(Role::Report, self.pending.as_slice()) else {
-            return Err(Stop::WriteFault(Role::Report));
-        };
-        self.pending.clear();
-        Ok(())
+        write_waiting(host, Role::Report, &mut self.pending)
     }
 
     /// Appends the report's lines for an event whose line has this number.
@@ -142,29 +136,11 @@ impl Streams {
         ensures unread { OnOk result
             (KeepsUnread self.old self.new (H.outside host.old) (H.outside host.new)) }
     {
-        self.make_room(host)?;
+        make_room(host, Role::Report, &mut self.pending, REPORT_LINE)?;
         self.pending
             .try_extend_from_slice(self.line.as_slice())
             .unwrap();
         Ok(())
-    }
-
-    // Writes the lines that wait, where another might not fit beside them.
-    fn make_room<H: Host>(&mut self, host: &mut H) -> Result<(), Stop>
-        ensures counts { Ended result (H.outside host.old) (H.outside host.new) }
-        ensures fault { IfErr result IsFault }
-        ensures files { KeepsFiles (H.outside host.old) (H.outside host.new) }
-        ensures said { OnOk result
-            (KeepsSaid self.old self.new (H.outside host.old) (H.outside host.new)) }
-        ensures room { OnOk result (length self.new.pending.items + 4096 ≤ 16384) }
-        ensures line { self.new.line ≡ self.old.line }
-        ensures unread { OnOk result
-            (KeepsUnread self.old self.new (H.outside host.old) (H.outside host.new)) }
-    {
-        if self.pending.len() + REPORT_LINE <= PENDING {
-            return Ok(());
-        }
-        self.flush(host)
     }
 
     // Reads the next block of the schedule, where the last one is taken.

@@ -13,5 +13,5 @@ loop-sector-preserved g c =
 pub returns-clause-out : goal.returns-clause-out
 returns-clause-out g c =
     let all : length (physical c.args.machine.now).kept.durable ≤ c.loop-sector.sector = omega arith in
-    WritesFront-all (g.H.Host.outside c.args.host.now) (g.H.Host.outside c.loop-sector.host) (g.H.Host.outside c.write_piece.new.host)
-    (physical c.args.machine.now) _ _ _ c.loop-sector.sector all c.loop-sector.invariant c.in_ok-write_piece.ensures.empty c.in_ok-write_piece.ensures.waits c.requires.empty
+    WritesFront-all (g.H.Host.outside c.args.host.now) (g.H.Host.outside c.loop-sector.host) (g.H.Host.outside c.write_waiting.new.host)
+    (physical c.args.machine.now) _ _ _ c.loop-sector.sector all c.loop-sector.invariant c.in_ok-write_waiting.ensures.empty c.in_ok-write_waiting.ensures.waits c.requires.empty
