@@ -36,7 +36,8 @@ still_played start from to old new now entries said was = record { run = was.run
 -- the next line was taken
 pub line_taken : (start : Physical) (from to : Streams) (old new : Outside) (now : Physical) (line : List ℕ) (number : ℕ)
     → new.told Schedule ≡ old.told Schedule → KeepsSaid from to old new
-    → IfTold (old.told Schedule) (λ text. (events : List Event) → HasRead text (unread from old text) events → IsNextLine text (unread to new text) events line)
+    → IfTold (old.told Schedule) (λ text. (events : List Event) → HasRead text (unread from old text) events
+    → IsNextLine text (unread to new text) events line)
     → HasPlayed start from old now number → HasTaken start to new now line number
 line_taken start from to old new now line number same said taken was = record {
   entries = was.entries;
@@ -50,13 +51,15 @@ line_taken start from to old new now line number same said taken was = record {
 -- there is no next line: what was played before has failed there
 pub none_taken : (start : Physical) (from to : Streams) (old new : Outside) (now : Physical) (number : ℕ) (kind : LineFault)
     → new.told Schedule ≡ old.told Schedule → KeepsSaid from to old new
-    → IfTold (old.told Schedule) (λ text. (events : List Event) → HasNoEnd events → length events + 1 ≡ number → HasRead text (unread from old text) events → FailsAt text events number kind)
+    → IfTold (old.told Schedule) (λ text. (events : List Event) → HasNoEnd events → length events + 1 ≡ number
+    → HasRead text (unread from old text) events → FailsAt text events number kind)
     → HasPlayed start from old now number → HasFailed start to new now number kind
 none_taken start from to old new now number kind same said fails was = record {
   entries = was.entries;
   played = still_played start from to old new now was.entries said was.played;
   fails = subst (λ o. IfTold o (λ text. FailsAt text (events_of was.entries) number kind)) (sym same)
-      (IfTold-both (old.told Schedule) _ _ _ (λ text step read. step (events_of was.entries) was.unended (ap (λ k. k + 1) (events_length was.entries) ∙ was.next) read) fails was.read);
+      (IfTold-both (old.told Schedule) _ _ _ (λ text step read. step (events_of was.entries) was.unended
+      (ap (λ k. k + 1) (events_length was.entries) ∙ was.next) read) fails was.read);
 }
 
 -- the line that was taken fails
@@ -67,7 +70,8 @@ taken_failed start s o now line number bad kind within is fails was = record {
   played = was.played;
   fails = subst (λ k. IfTold (o.told Schedule) (λ text. FailsAt text (events_of was.entries) k kind)) (sym is)
       (IfTold-weaker (o.told Schedule) _ _
-      (λ text taken. fails_next text (events_of was.entries) number within was.unended (ap (λ k. k + 1) (events_length was.entries) ∙ was.next) kind line (unread s o text) fails taken)
+      (λ text taken. fails_next text (events_of was.entries) number within was.unended
+      (ap (λ k. k + 1) (events_length was.entries) ∙ was.next) kind line (unread s o text) fails taken)
       was.taken);
 }
 
@@ -88,7 +92,8 @@ module _ (start : Physical) (from to : Streams) (old new : Outside) (before afte
   read_done : IfTold (new.told Schedule) (λ text. HasRead text (unread to new text) (e ∷ events_of was.entries))
   read_done = subst (λ o. IfTold o (λ text. HasRead text (unread to new text) (e ∷ events_of was.entries))) (sym same)
       (IfTold-weaker (old.told Schedule) _ _
-      (λ text taken. subst (λ left. HasRead text left (e ∷ events_of was.entries)) (sym (kept text)) (read_next text line (unread from old text) e (events_of was.entries) says taken))
+      (λ text taken. subst (λ left. HasRead text left (e ∷ events_of was.entries)) (sym (kept text))
+      (read_next text line (unread from old text) e (events_of was.entries) says taken))
       was.taken)
 
   pub line_done : (goes : Progress) → number ≤ LAST_LINE → Leads goes e number → HasDone goes start to new after number
@@ -115,7 +120,8 @@ played_out start s to o new now number same nothing said done = record {
   entries = done.entries;
   played = still_played start s to o new now done.entries said done.played;
   schedule = subst (λ told. IfTold told (λ text. IsSchedule text (events_of done.entries))) (sym same)
-      (IfTold-both (o.told Schedule) _ _ _ (λ text read end. (done.ended, subst (λ left. HasRead text left (events_of done.entries)) end read)) done.read nothing);
+      (IfTold-both (o.told Schedule) _ _ _
+      (λ text read end. (done.ended, subst (λ left. HasRead text left (events_of done.entries)) end read)) done.read nothing);
   length = done.length;
 }
 

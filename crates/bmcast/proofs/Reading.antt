@@ -31,6 +31,9 @@ TakesFront-push from mid to old now new front byte so counts files said taken di
   counts = same_counts_trans old now new so.counts counts;
   files = λ role other. files role other ∙ so.files role other;
   said = λ text was. said text (so.said text was);
-  bytes = IfTold-both (old.told Schedule) _ _ _ (λ text was one. was ∙ ap (λ rest. front ++ rest) one ∙ sym (append_assoc front (byte ∷ []) (unread to new text))) so.bytes (subst (λ o. IfTold o (λ text. Takes (Some byte) (unread mid now text) (unread to new text))) (so.files Schedule (λ e. cc)) taken);
+  bytes = IfTold-both (old.told Schedule) _ _ _
+      (λ text was one. was ∙ ap (λ rest. front ++ rest) one ∙ sym (append_assoc front (byte ∷ []) (unread to new text)))
+      so.bytes
+      (subst (λ o. IfTold o (λ text. Takes (Some byte) (unread mid now text) (unread to new text))) (so.files Schedule (λ e. cc)) taken);
   one = IsOneLine-push front byte so.one differs;
 }

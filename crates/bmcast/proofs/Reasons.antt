@@ -35,7 +35,13 @@ late_reason words o choice (Ok x) says lengths late = record { choice = choice; 
 late_reason words o choice (Err stop.NoMemory) says lengths late = record { choice = choice; says = says; lengths = lengths }
 late_reason words o choice (Err (stop.BadLine number kind)) says lengths late = record { choice = choice; says = says; lengths = lengths }
 late_reason words o choice (Err (stop.WriteFault role)) says lengths late = record { choice = choice; says = says; lengths = lengths }
-late_reason words o choice (Err (stop.ReadFault role)) says lengths late = record { choice = choice; says = says; lengths = IfTold-all (o.told Image) _ (λ image. IfTold-all (o.told Disk) (λ disk. Unit {0}) (λ disk. tt {0})) }
+late_reason words o choice (Err (stop.ReadFault role)) says lengths late =
+    record {
+      choice = choice;
+      says = says;
+      lengths =
+          IfTold-all (o.told Image) _ (λ image. IfTold-all (o.told Disk) (λ disk. Unit {0}) (λ disk. tt {0}));
+    }
 late_reason words o choice (Err stop.Usage) says lengths late = absurd late
 late_reason words o choice (Err (stop.Unsuitable why)) says lengths late = absurd late
 late_reason words o choice (Err stop.NotYet) says lengths late = absurd late

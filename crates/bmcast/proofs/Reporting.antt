@@ -17,9 +17,12 @@ pub record ReportsFront (from to : Streams) (old new : Outside) (lines : List �
   pub unread : KeepsUnread from to old new
 
 -- a line more
-items_text-push : (number : ℕ) (items : List Item) (one : Item) (bytes : List ℕ) → items_text number (items ++ one ∷ []) bytes ≡ items_text number items bytes ++ line_text number one bytes
+items_text-push : (number : ℕ) (items : List Item) (one : Item) (bytes : List ℕ)
+    → items_text number (items ++ one ∷ []) bytes ≡ items_text number items bytes ++ line_text number one bytes
 items_text-push number [] one bytes = append-nil (line_text number one bytes)
-items_text-push number (first ∷ items) one bytes = ap (λ xs. line_text number first bytes ++ xs) (items_text-push number items one bytes) ∙ sym (append_assoc (line_text number first bytes) (items_text number items bytes) (line_text number one bytes))
+items_text-push number (first ∷ items) one bytes =
+    ap (λ xs. line_text number first bytes ++ xs) (items_text-push number items one bytes)
+    ∙ sym (append_assoc (line_text number first bytes) (items_text number items bytes) (line_text number one bytes))
 
 pub ReportsFront-line : (from mid to : Streams) (old now new : Outside) (number i : ℕ) (items shown : List Item) (d : Item) (bytes : List ℕ)
     → shown ≡ items → i < length shown
@@ -30,9 +33,14 @@ pub ReportsFront-line : (from mid to : Streams) (old now new : Outside) (number 
 ReportsFront-line from mid to old now new number i items shown d bytes same below so counts files said unread_same = record {
   counts = same_counts_trans old now new so.counts counts;
   files = λ role other. files role other ∙ so.files role other;
-  said = λ text was. subst (Said to new) (append_assoc text (items_text number (take i items) bytes) (line_text number (get_or shown i d) bytes) ∙ ap (λ xs. text ++ xs) (sym more)) (said (text ++ items_text number (take i items) bytes) (so.said text was));
+  said = λ text was. subst (Said to new)
+      (append_assoc text (items_text number (take i items) bytes) (line_text number (get_or shown i d) bytes)
+      ∙ ap (λ xs. text ++ xs) (sym more))
+      (said (text ++ items_text number (take i items) bytes) (so.said text was));
   unread = λ text. unread_same text ∙ so.unread text;
 }
   where
-    more : items_text number (take (i + 1) items) bytes ≡ items_text number (take i items) bytes ++ line_text number (get_or shown i d) bytes
-    more = let there : i < length items = subst (λ xs. i < length xs) same below in rw (same, take_more items i d) (items_text-push number (take i items) (get_or items i d) bytes)
+    more : items_text number (take (i + 1) items) bytes
+        ≡ items_text number (take i items) bytes ++ line_text number (get_or shown i d) bytes
+    more = let there : i < length items = subst (λ xs. i < length xs) same below in
+        rw (same, take_more items i d) (items_text-push number (take i items) (get_or items i d) bytes)

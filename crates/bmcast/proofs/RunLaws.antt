@@ -57,7 +57,8 @@ reported s0 s1 s2 s3 o0 o1 o2 o3 before after number ready none taken ended same
       run = h.played.run;
       schedule = subst (λ told. IfTold told (λ text. IsSchedule text (events_of h.entries))) same h.schedule;
       report = IfTold-weaker (o3.told Report) _ _
-          (λ written said. sym (append-nil written) ∙ ap (λ xs. written ++ xs) (sym empty) ∙ said ∙ ap (λ n. history_text h.entries ++ end_text n) (sym h.length))
+          (λ written said. sym (append-nil written) ∙ ap (λ xs. written ++ xs) (sym empty) ∙ said
+          ∙ ap (λ n. history_text h.entries ++ end_text n) (sym h.length))
           (flushed (history_text h.entries ++ end_text number) (end_said (history_text h.entries) h.played.said));
     }
 
@@ -73,7 +74,8 @@ stopped s0 s1 o0 o1 before after number kind ready none taken failed same empty 
       entries = h.entries;
       run = h.played.run;
       schedule = subst (λ told. IfTold told (λ text. FailsAt text (events_of h.entries) number kind)) same h.fails;
-      report = IfTold-weaker (o1.told Report) _ _ (λ written said. sym (append-nil written) ∙ ap (λ xs. written ++ xs) (sym empty) ∙ said) h.played.said;
+      report = IfTold-weaker (o1.told Report) _ _
+          (λ written said. sym (append-nil written) ∙ ap (λ xs. written ++ xs) (sym empty) ∙ said) h.played.said;
     }
 
 -- a run that is done leaves what it read
@@ -90,7 +92,8 @@ pub record IsLoaded (memory : ℕ) (o : Outside) (before : Physical) : Type 0 wh
   pub disk : IfTold (o.told Disk) (λ disk. before.kept.durable ≡ sectors_of_disk disk)
 
 -- the plain drive that began with these sectors has the run of the physical one
-beside : (memory : ℕ) (before after : Physical) (entries : List Entry) → before ≡ drive_over memory before.kept.durable → IsDriveRun before entries after
+beside : (memory : ℕ) (before after : Physical) (entries : List Entry) → before ≡ drive_over memory before.kept.durable
+    → IsDriveRun before entries after
     → HasPlainRun (drives_over memory before.kept.durable).plain (drive_over memory before.kept.durable) entries after
 beside memory before after entries began run =
     let sectors = before.kept.durable in
@@ -99,7 +102,8 @@ beside memory before after entries began run =
     (subst (λ start. IsDriveRun start entries after) began run)
 
 -- out has the sectors that were durable at the end
-out_sectors : (out : List ℕ) (sectors : List (List ℕ)) → All (λ sector. length sector ≡ 512) sectors → out ≡ concat sectors → sectors_of_disk out ≡ sectors
+out_sectors : (out : List ℕ) (sectors : List (List ℕ)) → All (λ sector. length sector ≡ 512) sectors
+    → out ≡ concat sectors → sectors_of_disk out ≡ sectors
 out_sectors out sectors whole written =
     let long : length out ≡ 512 * length sectors = ap length written ∙ length-sectors sectors whole in
     let count : length out / 512 ≡ length sectors = omega arith in
@@ -131,10 +135,12 @@ done o1 o2 o3 o4 o5 before after memory left loaded played written was told out 
     let count = run_length before after told.entries told.run in
     record {
       was = was_run memory o1 o2 before after told.entries left was told.run;
-      schedule = subst (λ o. IfTold o (λ text. IsSchedule text (events_of told.entries))) (loaded.told Schedule ∙ left Schedule read_schedule) told.schedule;
+      schedule = subst (λ o. IfTold o (λ text. IsSchedule text (events_of told.entries)))
+          (loaded.told Schedule ∙ left Schedule read_schedule) told.schedule;
       report = subst (λ o. IfTold o (λ text. text ≡ report_text told.entries)) (sym (written Report (λ e. cc))) told.report;
       out = IfTold-weaker (o5.told Out) _ _ (λ bytes e. out_sectors bytes after.kept.durable whole e) out;
-      whole = IfTold-weaker (o5.told Out) _ _ (λ bytes e. ap length e ∙ length-sectors after.kept.durable whole ∙ ap (λ n. 512 * n) count) out;
+      whole = IfTold-weaker (o5.told Out) _ _
+          (λ bytes e. ap length e ∙ length-sectors after.kept.durable whole ∙ ap (λ n. 512 * n) count) out;
       outcome = durable_are_outcome after plain.plain plain.stands;
       unnamed = only_named 64 before.kept.durable (replicate memory 0) told.entries after was.sectors run;
     }

@@ -34,5 +34,5 @@ IsOwed status.NoMemory words o = ⊥
 
 -- where no count rose the answer is the one that is owed, or want of memory
 abbrev pub AnswersWhatIsOwed : Status → List (List ℕ) → Outside → Outside → Type 0
-AnswersWhatIsOwed answer words old new = (owed : Status) → IsOwed owed words old → NoCountRose old new
-    → (answer ≡ owed) ⊎ (answer ≡ status.NoMemory)
+AnswersWhatIsOwed answer words old new = (owed : Status) → IsOwed owed words old
+    → NoCountRose old new → (answer ≡ owed) ⊎ (answer ≡ status.NoMemory)

@@ -27,7 +27,8 @@ pub record IsReported (old new : Outside) (start now : Physical) : Type 0 where
   pub report : IfTold (new.told Report) (λ text. text ≡ report_text entries)
 
 -- the schedule was played up to its first bad line, and the report is the text of the events before it
-pub record IsStopped (old new : Outside) (start now : Physical) (number : ℕ) (kind : LineFault) : Type 0 where
+pub record IsStopped (old new : Outside) (start now : Physical) (number : ℕ)
+    (kind : LineFault) : Type 0 where
   pub entries : List Entry
   pub run : IsDriveRun start entries now
   pub schedule : IfTold (old.told Schedule) (λ text. FailsAt text (events_of entries) number kind)
@@ -39,12 +40,13 @@ sectors_of_disk disk = sectors_in (length disk / 512) disk
 
 -- a drive at power-on over these sectors, all durable, with a guest's memory of so many zeros
 abbrev pub drive_over : ℕ → List (List ℕ) → Physical
-drive_over memory sectors = physical_at_power_on (fresh 64 sectors) (length sectors) (replicate memory 0)
+drive_over memory sectors =
+    physical_at_power_on (fresh 64 sectors) (length sectors) (replicate memory 0)
 
 -- the same beside the plain drive for which it stands
 abbrev pub drives_over : ℕ → List (List ℕ) → Drives
-drives_over memory sectors =
-    drives (drive_at_power_on sectors (length sectors) (replicate memory 0)) (drive_over memory sectors)
+drives_over memory sectors = drives
+    (drive_at_power_on sectors (length sectors) (replicate memory 0)) (drive_over memory sectors)
 
 -- what was run, with a guest's memory of so many bytes, over the disk of this outside:
 pub record WasRun (memory : ℕ) (old : Outside) : Type 0 where
@@ -80,7 +82,8 @@ pub record IsDone (memory : ℕ) (old new : Outside) : Type 0 where
 pub record IsBadLine (memory : ℕ) (old new : Outside) (number : ℕ) (kind : LineFault) : Type 0 where
   pub was : WasRun memory old
   -- the lines before it are those of these events, and it is the first that isn't one, for this fault
-  pub schedule : IfTold (old.told Schedule) (λ text. FailsAt text (events_of was.entries) number kind)
+  pub schedule : IfTold (old.told Schedule)
+      (λ text. FailsAt text (events_of was.entries) number kind)
   -- the report is the text of the history, without an end
   pub report : IfTold (new.told Report) (λ text. text ≡ history_text was.entries)
 
@@ -96,4 +99,5 @@ RunIsDone words old new = Chosen words (λ choice. IsDone choice.sizes.memory ol
 
 -- the run that the words choose ended at a bad line
 abbrev pub RunIsBad : List (List ℕ) → Outside → Outside → ℕ → LineFault → Type 0
-RunIsBad words old new number kind = Chosen words (λ choice. IsBadLine choice.sizes.memory old new number kind)
+RunIsBad words old new number kind =
+    Chosen words (λ choice. IsBadLine choice.sizes.memory old new number kind)

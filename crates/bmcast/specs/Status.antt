@@ -19,7 +19,8 @@ pub record OnlyConsole (old new : Outside) : Type 0 where
 
 -- this text was appended to Console; or a prefix of it, and the count of Console's writes rose
 abbrev pub IsTold : List ℕ → Outside → Outside → Type 0
-IsTold text old new = Becomes (λ before after. after ≡ before ++ text) (old.told Console) (new.told Console)
+IsTold text old new =
+    Becomes (λ before after. after ≡ before ++ text) (old.told Console) (new.told Console)
     ⊎ (Rose (old.write_faults Console) (new.write_faults Console)
     × Becomes (AppendsPrefix text) (old.told Console) (new.told Console))
 
@@ -33,7 +34,8 @@ pub record ReadFailed (failed : Role) (old new : Outside) : Type 0 where
 pub record WriteFailed (failed : Role) (old new : Outside) : Type 0 where
   pub rose : Rose (old.write_faults failed) (new.write_faults failed)
   pub reads : (role : Role) → new.read_faults role ≡ old.read_faults role
-  pub writes : (role : Role) → role ≢ failed → role ≢ Console → new.write_faults role ≡ old.write_faults role
+  pub writes : (role : Role) → role ≢ failed → role ≢ Console
+      → new.write_faults role ≡ old.write_faults role
 
 -- what a status says of the counts of faults
 abbrev pub HasItsCause : Status → Outside → Outside → Type 0

@@ -16,7 +16,8 @@ pub returns-clause-waits : goal.returns-clause-waits
 returns-clause-waits g c = λ text was.
     let list = (physical c.args.machine.now).kept.durable in
     let value = rw c.unwrap.ensures at c.durable.ensures.value in
-    let read : slice_index_or list c.args.sector [] ≡ c.durable.new.into = get_or_from_slice_get list c.args.sector c.durable.new.into [] value in
+    let read : slice_index_or list c.args.sector [] ≡ c.durable.new.into =
+    get_or_from_slice_get list c.args.sector c.durable.new.into [] value in
     let added = rw c.unwrap-2.ensures at c.try_extend_from_slice.ensures.ok in
     let o = g.H.Host.outside c.make_room.new.host in
     subst (λ waiting. Waits Out waiting o (text ++ slice_index_or list c.args.sector [])) (sym added)
