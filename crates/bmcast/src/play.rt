@@ -1,6 +1,6 @@
 //! The events of the schedule, read, done and reported one line at a time.
 
-ghost use Rattle.std.specs.Prelude.{◌≡◌, ◌≢◌, ◌≤◌, ◌+◌, ◌++◌, ℕ, List, [], IfErr, IfOk, OnOk};
+ghost use Rattle.std.specs.Prelude.{◌≡◌, ◌≢◌, ◌≤◌, ◌+◌, ℕ, List, [], IfErr, IfOk, OnOk};
 ghost use Rattle.bm_host.specs.Outside.{Outside, IfTold};
 ghost use Rattle.bm_host.specs.declared.Role.TheVariants.{Schedule};
 ghost use Rattle.plain_drive.specs.Physical.{Physical};

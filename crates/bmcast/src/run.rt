@@ -1,7 +1,6 @@
 //! A whole run, step by step: words, lengths, files, disk, events, report and out.
 
-ghost use Rattle.std.specs.Prelude.{◌≡◌, ◌/◌, ◌*◌, ◌%◌, ◌≤◌, ◌⊎◌, ℕ, List, [], length, IfErr, OnOk, IfOk};
-ghost use Rattle.bm_host.specs.Outside.{IfTold};
+ghost use Rattle.std.specs.Prelude.{◌≡◌, ◌/◌, ◌%◌, ◌≤◌, ◌⊎◌, [], IfErr, OnOk, IfOk};
 ghost use Rattle.bm_host.specs.declared.Role.TheVariants.{Disk, Out};
 ghost use Rattle.plain_drive.specs.Physical.{Physical};
 ghost use Rattle.bmcast.specs.Machine.{physical};

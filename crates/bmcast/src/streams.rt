@@ -1,6 +1,6 @@
 //! The schedule as it is read in blocks, and the report as it is written in blocks.
 
-ghost use Rattle.std.specs.Prelude.{◌≡◌, ◌≢◌, ◌≤◌, ◌<◌, ◌+◌, ◌++◌, ℕ, List, [], ◌∷◌, length, IfErr, IfOk, OnOk, MatchOption};
+ghost use Rattle.std.specs.Prelude.{◌≡◌, ◌≤◌, ◌<◌, ◌+◌, [], length, IfErr, IfOk, OnOk};
 
 use crate::stop::Stop;
 use crate::waiting::{make_room, write_waiting};
