@@ -35,8 +35,8 @@ both_lengths words o P Q joined chosen offered =
     both_told (o.told Image) _ _
     (λ image p q. both_told (o.told Disk) _ _ (λ disk p q. joined offered.choice.sizes.block (length image) (length disk) p q) p q)
     (subst (λ (choice : Choice). IfLengths o (P choice.sizes.block))
-    (says_once words chosen.choice offered.choice chosen.says offered.says) chosen.lengths)
-    offered.lengths
+    (says_once words chosen.choice offered.choice chosen.says offered.says) chosen.holds)
+    offered.holds
 
 -- lengths that are refused for a reason aren't suitable
 refused_suitable : (reason : Why) (refusal : Option Unsuitable) → option_map why_of refusal ≡ Some reason → refusal ≡ None → ⊥

@@ -1,4 +1,5 @@
 pub mod Machine
+pub mod Chosen
 pub mod Stop
 pub mod Waiting
 pub mod Streams

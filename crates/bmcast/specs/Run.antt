@@ -2,7 +2,6 @@
 use Rattle.std.specs.Prelude.{ℕ, ◌≡◌, ◌*◌, ◌/◌, false, List, [], length, replicate, slice_index_or}
 use Rattle.bm_host.specs.declared.Role.TheVariants.{Disk, Schedule, Report, Out}
 use Rattle.bm_host.specs.Outside.{Outside, IfTold}
-use Rattle.run_words.specs.Options.{Choice, Says}
 use Rattle.plain_drive.specs.Plain.{sectors_in}
 use Rattle.plain_drive.specs.Cut.{IsOutcome, drive_at_power_on}
 use Rattle.plain_drive.specs.Physical.{Physical, StandsFor, fresh, physical_at_power_on}
@@ -12,6 +11,7 @@ use Rattle.schedule_text.specs.BadLine.{FailsAt}
 use Rattle.plain_run.specs.Entry.{Entry, events_of, history_text, report_text}
 use Rattle.plain_run.specs.Run.{Drives, IsDriveRun, IsDirectRun, drives}
 use Rattle.plain_run.specs.Written.{is_named}
+use Rattle.bmcast.specs.Chosen.{Chosen}
 
 -- no event is read yet: nothing of the schedule is taken, and report and out are empty
 pub record IsReady (o : Outside) : Type 0 where
@@ -86,12 +86,6 @@ pub record IsBadLine (memory : ℕ) (old new : Outside) (number : ℕ) (kind : L
       (λ text. FailsAt text (events_of was.entries) number kind)
   -- the report is the text of the history, without an end
   pub report : IfTold (new.told Report) (λ text. text ≡ history_text was.entries)
-
--- the words choose a run, of which this holds
-pub record Chosen (words : List (List ℕ)) (P : Choice → Type 0) : Type 0 where
-  pub choice : Choice
-  pub says : Says words choice
-  pub holds : P choice
 
 -- the run that the words choose is done
 abbrev pub RunIsDone : List (List ℕ) → Outside → Outside → Type 0

@@ -2,6 +2,7 @@
 use Rattle.std.specs.Prelude.{ℕ, ◌≡◌, ◌≢◌, ◌≤◌, ◌++◌, ◌⊎◌, List, Result, Ok, Err}
 use Rattle.run_words.specs.Options.{Choice, Says}
 use Rattle.schedule_text.specs.declared.LineFault.{LineFault}
+use Rattle.bmcast.specs.Chosen.{Chosen}
 use Rattle.bmcast.specs.Lengths.{IfLengths, CanRun, IsNotYet, IsUnsuitable}
 use Rattle.bm_host.specs.declared.Role.{Role}
 use Rattle.bm_host.specs.declared.Role.TheVariants.{Console}
@@ -81,10 +82,8 @@ status_after (Ok x) = status.Done
 status_after (Err why) = status_of why
 
 -- the words choose a run, and its block with the lengths of image and disk are so
-pub record Chooses (words : List (List ℕ)) (o : Outside) (P : ℕ → ℕ → ℕ → Type 0) : Type 0 where
-  pub choice : Choice
-  pub says : Says words choice
-  pub lengths : IfLengths o (P choice.sizes.block)
+abbrev pub Chooses : List (List ℕ) → Outside → (ℕ → ℕ → ℕ → Type 0) → Type 0
+Chooses words o P = Chosen words (λ choice. IfLengths o (P choice.sizes.block))
 
 -- why a status comes, of the words and of the lengths, in the order in which these are looked at
 abbrev pub HasItsReason : Status → List (List ℕ) → Outside → Type 0
