@@ -30,12 +30,9 @@ read_next text line left e events says (old, (before, lines, inr ended), inr tak
 
 -- a line's fault is how it fails, whatever its number
 pub line_fails : (line : List ℕ) (kind : LineFault) (number : ℕ) → HasFault line kind → LineFails kind number line
-line_fails line fault.Form number has = has
-line_fails line fault.Number number has = has
-line_fails line fault.LongLine number has = has
-line_fails line fault.NoEnd number has = has
 line_fails line fault.TooMany number has = absurd has
 line_fails line fault.Trailing number has = absurd has
+line_fails line other number has = has
 
 module _ (text : List ℕ) (events : List Event) (number : ℕ) (within : number ≤ LAST_LINE) (unended : HasNoEnd events)
     (next : length events + 1 ≡ number) where
@@ -63,12 +60,9 @@ module _ (text : List ℕ) (events : List Event) (number : ℕ) (within : number
 
   -- the line that is left first fails
   due : (left : List ℕ) (kind : LineFault) → left ≢ [] → LineFails kind number (first_line left) → FailsWith kind number events left
-  due left fault.Form some fails = record { goes_on = goes_on; some = some; fails = fails }
-  due left fault.Number some fails = record { goes_on = goes_on; some = some; fails = fails }
-  due left fault.LongLine some fails = record { goes_on = goes_on; some = some; fails = fails }
-  due left fault.TooMany some fails = record { goes_on = goes_on; some = some; fails = fails }
   due left fault.NoEnd some fails = absurd fails
   due left fault.Trailing some fails = absurd fails
+  due left other some fails = record { goes_on = goes_on; some = some; fails = fails }
 
   pub fails_next : (kind : LineFault) (line new : List ℕ) → LineFails kind number line → IsNextLine text new events line
       → FailsAt text events number kind

@@ -64,9 +64,7 @@ usage_owed words old (status.Unsuitable reason) none is = absurd (none is.choice
 usage_owed words old status.NotYet none is = absurd (none is.choice is.says)
 usage_owed words old (status.BadLine n kind) none is = absurd (none is.0.choice is.0.says)
 usage_owed words old status.Done none is = absurd (none is.0.choice is.0.says)
-usage_owed words old (status.ReadFault role) none is = absurd is
-usage_owed words old (status.WriteFault role) none is = absurd is
-usage_owed words old status.NoMemory none is = absurd is
+usage_owed words old never none is = absurd is
 
 -- the answer is that the lengths aren't suitable
 unsuitable_owed : (words : List (List ℕ)) (old : Outside) (why : Why) (owed : Status) → HasItsReason (status.Unsuitable why) words old
@@ -77,9 +75,7 @@ unsuitable_owed words old why (status.Unsuitable other) reason is =
 unsuitable_owed words old why status.NotYet reason is = absurd (both_lengths words old _ _ (unsuitable_not_yet why) reason is)
 unsuitable_owed words old why (status.BadLine n kind) reason is = absurd (both_lengths words old _ _ (unsuitable_can_run why) reason is.0)
 unsuitable_owed words old why status.Done reason is = absurd (both_lengths words old _ _ (unsuitable_can_run why) reason is.0)
-unsuitable_owed words old why (status.ReadFault role) reason is = absurd is
-unsuitable_owed words old why (status.WriteFault role) reason is = absurd is
-unsuitable_owed words old why status.NoMemory reason is = absurd is
+unsuitable_owed words old why never reason is = absurd is
 
 -- the answer is NotYet
 not_yet_owed : (words : List (List ℕ)) (old : Outside) (owed : Status) → HasItsReason status.NotYet words old
@@ -90,9 +86,7 @@ not_yet_owed words old (status.Unsuitable why) reason is =
 not_yet_owed words old status.NotYet reason is = refl
 not_yet_owed words old (status.BadLine n kind) reason is = absurd (both_lengths words old _ _ not_yet_can_run reason is.0)
 not_yet_owed words old status.Done reason is = absurd (both_lengths words old _ _ not_yet_can_run reason is.0)
-not_yet_owed words old (status.ReadFault role) reason is = absurd is
-not_yet_owed words old (status.WriteFault role) reason is = absurd is
-not_yet_owed words old status.NoMemory reason is = absurd is
+not_yet_owed words old never reason is = absurd is
 
 -- words and lengths are good, and so is what the schedule owes
 runs_owed : (words : List (List ℕ)) (old : Outside) (answer owed : Status) → Chooses words old CanRun
@@ -107,9 +101,7 @@ runs_owed words old answer status.NotYet can bad done is =
     absurd (both_lengths words old _ _ (λ block image disk good later. not_yet_can_run block image disk later good) can is)
 runs_owed words old answer (status.BadLine n kind) can bad done is = bad n kind is.1
 runs_owed words old answer status.Done can bad done is = done is.1
-runs_owed words old answer (status.ReadFault role) can bad done is = absurd is
-runs_owed words old answer (status.WriteFault role) can bad done is = absurd is
-runs_owed words old answer status.NoMemory can bad done is = absurd is
+runs_owed words old answer never can bad done is = absurd is
 
 -- the first bad line of a schedule that has one is the one that was found
 bad_line_found : (words : List (List ℕ)) (old new : Outside) (n : ℕ) (kind : LineFault) (owed : Status)

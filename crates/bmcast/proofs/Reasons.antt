@@ -18,10 +18,7 @@ pub early_reason : (words : List (List ℕ)) (o : Outside) (choice : Choice) (wh
 early_reason words o choice (stop.Unsuitable reason) says lengths early = record { choice = choice; says = says; holds = lengths }
 early_reason words o choice stop.NotYet says lengths early = record { choice = choice; says = says; holds = lengths }
 early_reason words o choice (stop.ReadFault role) says lengths early = record { choice = choice; says = says; holds = lengths }
-early_reason words o choice stop.Usage says lengths early = absurd early
-early_reason words o choice (stop.BadLine number kind) says lengths early = absurd early
-early_reason words o choice (stop.WriteFault role) says lengths early = absurd early
-early_reason words o choice stop.NoMemory says lengths early = absurd early
+early_reason words o choice late says lengths early = absurd early
 
 -- an early stop is no bad line
 pub early_no_bad_line : (T : Type 0) (why : Stop) (P : ℕ → LineFault → Type 0) → IsEarly why → OnBadLine {T = T} (Err why) P
@@ -42,6 +39,4 @@ late_reason words o choice (Err (stop.ReadFault role)) says lengths late =
       holds =
           IfTold-all (o.told Image) _ (λ image. IfTold-all (o.told Disk) (λ disk. Unit {0}) (λ disk. tt {0}));
     }
-late_reason words o choice (Err stop.Usage) says lengths late = absurd late
-late_reason words o choice (Err (stop.Unsuitable why)) says lengths late = absurd late
-late_reason words o choice (Err stop.NotYet) says lengths late = absurd late
+late_reason words o choice (Err early) says lengths late = absurd late
