@@ -1,5 +1,5 @@
 -- The disk as it is read sector by sector, and out as it is written in pieces.
-use Rattle.std.proofs.Common.{◌≡◌, ◌≤◌, ◌<◌, ◌++◌, ℕ, List, [], ◌∷◌, length, take, drop, Option, Some, None, subst, sym, ap, ◌∙◌, ◌+◌, ◌*◌, append_assoc, append-nil}
+use Rattle.std.proofs.Common.{◌≡◌, ◌≤◌, ◌<◌, ◌++◌, ℕ, List, [], ◌∷◌, length, take, drop, Option, Some, None, subst, sym, ap, ◌∙◌, ◌+◌, ◌*◌, append_assoc, append-nil, refl}
 use Rattle.std.specs.List.{concat}
 use Rattle.std.specs.Prelude.{slice_set, slice_index_or}
 use Rattle.std.proofs.lemmas.List.{take_all, take_more, take_more_set}
@@ -12,7 +12,7 @@ use Rattle.plain_drive.specs.Plain.{sectors_in}
 use Rattle.plain_drive.proofs.Sectors.{sectors_in-more}
 use Rattle.bmcast.specs.Streams.{KeepsFilesBut}
 use Rattle.bmcast.specs.Waiting.{KeepsWaiting, Waits}
-use Rattle.bmcast.proofs.Told.{IfTold-weaker}
+use Rattle.bmcast.proofs.WaitingLaws.{Waits-none, Waits-all}
 
 -- so many sectors of the disk were read into a store, and nothing else happened
 pub record ReadsFront (old new : Outside) (size : ℕ) (list : List (List ℕ)) (sectors : ℕ) : Type 0 where
@@ -56,13 +56,10 @@ pub WritesFront-all : (old now new : Outside) (before mid : Physical) (waiting r
     → WritesFront old now before mid waiting i → rest ≡ [] → KeepsWaiting Out waiting rest now new
     → IfTold (old.told Out) (λ bytes. bytes ≡ []) → IfTold (new.told Out) (λ bytes. bytes ≡ concat before.kept.durable)
 WritesFront-all old now new before mid waiting rest i all so none waits empty =
-    let begun : Waits Out [] old [] = IfTold-weaker (old.told Out) (λ bytes. bytes ≡ []) (λ bytes. bytes ++ [] ≡ [])
-    (λ bytes e. append-nil bytes ∙ e) empty in
     let sectors : take i before.kept.durable ≡ before.kept.durable = take_all i before.kept.durable all in
-    let written : Waits Out [] new (concat before.kept.durable) = subst (λ xs. Waits Out xs new (concat before.kept.durable)) none
-    (subst (λ xs. Waits Out rest new (concat xs)) sectors (waits (concat (take i before.kept.durable)) (so.waits [] begun))) in
-    IfTold-weaker (new.told Out) (λ bytes. bytes ++ [] ≡ concat before.kept.durable) (λ bytes. bytes ≡ concat before.kept.durable)
-    (λ bytes e. sym (append-nil bytes) ∙ e) written
+    let text = concat (take i before.kept.durable) in
+    subst (λ list. IfTold (new.told Out) (λ bytes. bytes ≡ concat list)) sectors
+    (Waits-all Out new rest text none (waits text (so.waits [] (Waits-none Out old [] refl empty))))
 
 -- a sector that was read stands behind those before it
 sector_read : (list : List (List ℕ)) (disk bytes : List ℕ) (s : ℕ) → s < length list → bytes ≡ take 512 (drop (s * 512) disk)
@@ -77,10 +74,3 @@ pub sector_read_if_told : (told : Option (List ℕ)) (old new : List (List ℕ))
     → IfTold told (λ disk. take s old ≡ sectors_in s disk → take (s + 1) new ≡ sectors_in (s + 1) disk)
 sector_read_if_told None old new bytes s below set read = tt
 sector_read_if_told (Some disk) old new bytes s below set read = λ front. rw set (sector_read old disk bytes s below read front)
-
--- bytes that are added to those that wait
-pub Waits-more : (outside : Outside) (waiting text bytes : List ℕ) → Waits Out waiting outside text
-    → Waits Out (waiting ++ bytes) outside (text ++ bytes)
-Waits-more outside waiting text bytes = IfTold-weaker (outside.told Out) (λ written. written ++ waiting ≡ text)
-    (λ written. written ++ (waiting ++ bytes) ≡ text ++ bytes)
-    (λ written so. sym (append_assoc written waiting bytes) ∙ ap (λ xs. xs ++ bytes) so)

@@ -1,5 +1,5 @@
 -- A whole run, from its steps.
-use Rattle.std.proofs.Common.{◌≡◌, ◌*◌, ◌/◌, ◌++◌, ◌≤◌, ℕ, List, [], length, take, All, replicate, refl, sym, ◌∙◌, ap, subst, inl, arith, append-nil, length-take}
+use Rattle.std.proofs.Common.{◌≡◌, ◌*◌, ◌/◌, ◌++◌, ◌≤◌, ℕ, List, [], length, take, All, replicate, refl, sym, ◌∙◌, ap, subst, inl, arith, length-take}
 use Rattle.std.proofs.Math.ListN.{drop_of_length-le}
 use Rattle.bm_host.specs.declared.Role.TheVariants.{Disk, Schedule, Report, Out, Console}
 use Rattle.bm_host.specs.Outside.{Outside, IfTold, SameBytes, SameElsewhere}
@@ -24,6 +24,7 @@ use Rattle.bmcast.specs.BadLine.{HasFailed}
 use Rattle.bmcast.specs.Kept.{LeavesFiles, IsLeft}
 use Rattle.bmcast.specs.declared.Status.TheVariants as status
 use Rattle.bmcast.proofs.Told.{IfTold-weaker, IfTold-all}
+use Rattle.bmcast.proofs.WaitingLaws.{Waits-none, Waits-all}
 
 -- before the first line
 played_none : (s : Streams) (o : Outside) (p : Physical) → IsReady o → s.pending.items ≡ [] → s.at ≡ s.end → HasPlayed p s o p 1
@@ -31,7 +32,7 @@ played_none s o p ready none taken = record {
   entries = [];
   played = record {
     run = refl;
-    said = IfTold-weaker (o.told Report) _ _ (λ written empty. ap (λ xs. written ++ xs) none ∙ append-nil written ∙ empty) ready.report;
+    said = Waits-none Report o s.pending.items none ready.report;
   };
   unended = tt;
   read = IfTold-all (o.told Schedule) _ (λ text. ([], refl, inl (sym (all text))));
@@ -56,10 +57,9 @@ reported s0 s1 s2 s3 o0 o1 o2 o3 before after number ready none taken ended same
       entries = h.entries;
       run = h.played.run;
       schedule = subst (λ told. IfTold told (λ text. IsSchedule text (events_of h.entries))) same h.schedule;
-      report = IfTold-weaker (o3.told Report) _ _
-          (λ written said. sym (append-nil written) ∙ ap (λ xs. written ++ xs) (sym empty) ∙ said
-          ∙ ap (λ n. history_text h.entries ++ end_text n) (sym h.length))
-          (flushed (history_text h.entries ++ end_text number) (end_said (history_text h.entries) h.played.said));
+      report = subst (λ n. IfTold (o3.told Report) (λ text. text ≡ history_text h.entries ++ end_text n)) (sym h.length)
+          (Waits-all Report o3 s3.pending.items (history_text h.entries ++ end_text number) empty
+          (flushed (history_text h.entries ++ end_text number) (end_said (history_text h.entries) h.played.said)));
     }
 
 -- the schedule was played to its first bad line, and the report before it is written
@@ -74,8 +74,7 @@ stopped s0 s1 o0 o1 before after number kind ready none taken failed same empty 
       entries = h.entries;
       run = h.played.run;
       schedule = subst (λ told. IfTold told (λ text. FailsAt text (events_of h.entries) number kind)) same h.fails;
-      report = IfTold-weaker (o1.told Report) _ _
-          (λ written said. sym (append-nil written) ∙ ap (λ xs. written ++ xs) (sym empty) ∙ said) h.played.said;
+      report = Waits-all Report o1 s1.pending.items (history_text h.entries) empty h.played.said;
     }
 
 -- a run that is done leaves what it read

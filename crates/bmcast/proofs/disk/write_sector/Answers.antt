@@ -3,7 +3,7 @@ use Rattle.std.proofs.lemmas.Option.{get_or_from_slice_get}
 use Rattle.bm_host.specs.declared.Role.TheVariants.{Out}
 use Rattle.bmcast.specs.Machine.{physical}
 use Rattle.bmcast.specs.Waiting.{Waits}
-use Rattle.bmcast.proofs.DiskLaws.{Waits-more}
+use Rattle.bmcast.proofs.WaitingLaws.{Waits-more}
 use Rattle.bmcast.proofs.disk.write_sector.Goals as goal
 
 pub returns-in_err-make_room-clause-machine : goal.returns-in_err-make_room-clause-machine
@@ -22,4 +22,4 @@ returns-clause-waits g c = λ text was.
     let o = g.H.Host.outside c.make_room.new.host in
     subst (λ waiting. Waits Out waiting o (text ++ slice_index_or list c.args.sector [])) (sym added)
     (subst (λ bytes. Waits Out (c.make_room.new.waiting.items ++ c.durable.new.into) o (text ++ bytes)) (sym read)
-    (Waits-more o c.make_room.new.waiting.items text c.durable.new.into (c.in_ok-make_room.ensures.waits text was)))
+    (Waits-more Out o c.make_room.new.waiting.items text c.durable.new.into (c.in_ok-make_room.ensures.waits text was)))
