@@ -10,7 +10,7 @@ use Rattle.schedule_text.specs.declared.LineFault.{LineFault}
 use Rattle.schedule_text.specs.declared.LineFault.TheVariants as fault
 use Rattle.schedule_text.specs.declared.TheConstants.{LAST_LINE}
 use Rattle.schedule_text.specs.Line.{Says}
-use Rattle.schedule_text.specs.Schedule.{HasNoEnd, HasRead, IsSchedule}
+use Rattle.schedule_text.specs.Schedule.{HasNoEnd, HasRead}
 use Rattle.schedule_text.specs.BadLine.{LineFails, FailsAt}
 use Rattle.plain_run.specs.Entry.{Entry, entry_of, events_of, history_text, items_text}
 use Rattle.plain_run.specs.Run.{DriveEvent}
@@ -20,7 +20,7 @@ use Rattle.bmcast.specs.declared.streams.Streams.{Streams}
 use Rattle.bmcast.specs.Streams.{unread, Appends, Said, KeepsFiles, KeepsSaid, KeepsUnread}
 use Rattle.bmcast.specs.Played.{HasPlayed, HasTaken, HasDone, HasDoneEnd, HasEnded, IsNextLine, IsPlayed, Leads}
 use Rattle.bmcast.specs.BadLine.{HasFailed}
-use Rattle.bmcast.proofs.Told.{IfTold-both, IfTold-weaker}
+use Rattle.bmcast.proofs.Told.{IfTold-both, IfTold-weaker, IfTold-same}
 use Rattle.bmcast.proofs.Lines.{read_next, fails_next}
 
 -- a history has as many events as entries
@@ -43,7 +43,7 @@ line_taken start from to old new now line number same said taken was = record {
   entries = was.entries;
   played = still_played start from to old new now was.entries said was.played;
   unended = was.unended;
-  taken = subst (λ o. IfTold o (λ text. IsNextLine text (unread to new text) (events_of was.entries) line)) (sym same)
+  taken = IfTold-same _ (sym same)
       (IfTold-both (old.told Schedule) _ _ _ (λ text one read. one (events_of was.entries) read) taken was.read);
   next = was.next;
 }
@@ -57,7 +57,7 @@ pub none_taken : (start : Physical) (from to : Streams) (old new : Outside) (now
 none_taken start from to old new now number kind same said fails was = record {
   entries = was.entries;
   played = still_played start from to old new now was.entries said was.played;
-  fails = subst (λ o. IfTold o (λ text. FailsAt text (events_of was.entries) number kind)) (sym same)
+  fails = IfTold-same _ (sym same)
       (IfTold-both (old.told Schedule) _ _ _ (λ text step read. step (events_of was.entries) was.unended
       (ap (λ k. k + 1) (events_length was.entries) ∙ was.next) read) fails was.read);
 }
@@ -90,7 +90,7 @@ module _ (start : Physical) (from to : Streams) (old new : Outside) (before afte
   }
 
   read_done : IfTold (new.told Schedule) (λ text. HasRead text (unread to new text) (e ∷ events_of was.entries))
-  read_done = subst (λ o. IfTold o (λ text. HasRead text (unread to new text) (e ∷ events_of was.entries))) (sym same)
+  read_done = IfTold-same _ (sym same)
       (IfTold-weaker (old.told Schedule) _ _
       (λ text taken. subst (λ left. HasRead text left (e ∷ events_of was.entries)) (sym (kept text))
       (read_next text line (unread from old text) e (events_of was.entries) says taken))
@@ -119,7 +119,7 @@ pub played_out : (start : Physical) (s to : Streams) (o new : Outside) (now : Ph
 played_out start s to o new now number same nothing said done = record {
   entries = done.entries;
   played = still_played start s to o new now done.entries said done.played;
-  schedule = subst (λ told. IfTold told (λ text. IsSchedule text (events_of done.entries))) (sym same)
+  schedule = IfTold-same _ (sym same)
       (IfTold-both (o.told Schedule) _ _ _
       (λ text read end. (done.ended, subst (λ left. HasRead text left (events_of done.entries)) end read)) done.read nothing);
   length = done.length;
@@ -134,7 +134,7 @@ failed_behind start s to o new now number bad kind same said is trailing some do
   entries = done.entries;
   played = still_played start s to o new now done.entries said done.played;
   fails = subst (λ k. IfTold (new.told Schedule) (λ text. FailsAt text (events_of done.entries) bad k)) (sym trailing)
-      (subst (λ told. IfTold told (λ text. FailsAt text (events_of done.entries) bad fault.Trailing)) (sym same)
+      (IfTold-same _ (sym same)
       (IfTold-both (o.told Schedule) _ _ _ (λ text read left. record {
         left = unread s o text;
         read = read;
@@ -150,7 +150,7 @@ pub failed_on : (start : Physical) (s to : Streams) (o new : Outside) (now : Phy
 failed_on start s to o new now number kind same said failed = record {
   entries = failed.entries;
   played = still_played start s to o new now failed.entries said failed.played;
-  fails = subst (λ told. IfTold told (λ text. FailsAt text (events_of failed.entries) number kind)) (sym same) failed.fails;
+  fails = IfTold-same _ (sym same) failed.fails;
 }
 
 -- so far in the loop over lines: no count rose, no file but the report changed, and the lines before this number were played

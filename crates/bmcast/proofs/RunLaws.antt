@@ -8,8 +8,7 @@ use Rattle.plain_drive.specs.Physical.{Physical}
 use Rattle.plain_drive.proofs.Sectors.{length-sectors, sectors_in-concat}
 use Rattle.plain_drive.proofs.Standing.{fresh_stands, durable_are_outcome}
 use Rattle.schedule_text.specs.Report.{end_text}
-use Rattle.schedule_text.specs.Schedule.{IsSchedule}
-use Rattle.plain_run.specs.Entry.{Entry, events_of, history_text, report_text}
+use Rattle.plain_run.specs.Entry.{Entry, history_text}
 use Rattle.plain_run.specs.Run.{IsDriveRun, HasPlainRun, drives}
 use Rattle.plain_run.proofs.Standing.{drives_run}
 use Rattle.plain_run.proofs.Sectors.{run_length}
@@ -19,11 +18,10 @@ use Rattle.bmcast.specs.Streams.{unread, Appends, KeepsAllFiles, KeepsFiles, Kee
 use Rattle.bmcast.specs.Played.{HasPlayed, HasEnded}
 use Rattle.bmcast.specs.Run.{IsReady, IsReported, IsStopped, WasRun, IsDone, IsBadLine, RunIsBad, drive_over, drives_over, sectors_of_disk}
 use Rattle.schedule_text.specs.declared.LineFault.{LineFault}
-use Rattle.schedule_text.specs.BadLine.{FailsAt}
 use Rattle.bmcast.specs.BadLine.{HasFailed}
 use Rattle.bmcast.specs.Kept.{LeavesFiles, IsLeft}
 use Rattle.bmcast.specs.declared.Status.TheVariants as status
-use Rattle.bmcast.proofs.Told.{IfTold-weaker, IfTold-all}
+use Rattle.bmcast.proofs.Told.{IfTold-weaker, IfTold-all, IfTold-same}
 use Rattle.bmcast.proofs.WaitingLaws.{Waits-none, Waits-all}
 
 -- before the first line
@@ -56,7 +54,7 @@ reported s0 s1 s2 s3 o0 o1 o2 o3 before after number ready none taken ended same
     record {
       entries = h.entries;
       run = h.played.run;
-      schedule = subst (λ told. IfTold told (λ text. IsSchedule text (events_of h.entries))) same h.schedule;
+      schedule = IfTold-same _ same h.schedule;
       report = subst (λ n. IfTold (o3.told Report) (λ text. text ≡ history_text h.entries ++ end_text n)) (sym h.length)
           (Waits-all Report o3 s3.pending.items (history_text h.entries ++ end_text number) empty
           (flushed (history_text h.entries ++ end_text number) (end_said (history_text h.entries) h.played.said)));
@@ -73,7 +71,7 @@ stopped s0 s1 o0 o1 before after number kind ready none taken failed same empty 
     record {
       entries = h.entries;
       run = h.played.run;
-      schedule = subst (λ told. IfTold told (λ text. FailsAt text (events_of h.entries) number kind)) same h.fails;
+      schedule = IfTold-same _ same h.fails;
       report = Waits-all Report o1 s1.pending.items (history_text h.entries) empty h.played.said;
     }
 
@@ -118,7 +116,7 @@ was_run memory o1 o2 before after entries left was run =
       entries = entries;
       end = drives plain.plain after;
       stands = plain.stands;
-      read = subst (λ o. IfTold o (λ disk. before.kept.durable ≡ sectors_of_disk disk)) (left Disk read_disk) was.disk;
+      read = IfTold-same _ (left Disk read_disk) was.disk;
       run = plain.run;
     }
 
@@ -134,9 +132,8 @@ done o1 o2 o3 o4 o5 before after memory left loaded played written was told out 
     let count = run_length before after told.entries told.run in
     record {
       was = was_run memory o1 o2 before after told.entries left was told.run;
-      schedule = subst (λ o. IfTold o (λ text. IsSchedule text (events_of told.entries)))
-          (loaded.told Schedule ∙ left Schedule read_schedule) told.schedule;
-      report = subst (λ o. IfTold o (λ text. text ≡ report_text told.entries)) (sym (written Report (λ e. cc))) told.report;
+      schedule = IfTold-same _ (loaded.told Schedule ∙ left Schedule read_schedule) told.schedule;
+      report = IfTold-same _ (sym (written Report (λ e. cc))) told.report;
       out = IfTold-weaker (o5.told Out) _ _ (λ bytes e. out_sectors bytes after.kept.durable whole e) out;
       whole = IfTold-weaker (o5.told Out) _ _
           (λ bytes e. ap length e ∙ length-sectors after.kept.durable whole ∙ ap (λ n. 512 * n) count) out;
@@ -150,8 +147,7 @@ pub bad_line : (o1 o2 o3 o4 : Outside) (before after : Physical) (memory number 
     → IsStopped o3 o4 before after number kind → IsBadLine memory o1 o4 number kind
 bad_line o1 o2 o3 o4 before after memory number kind left loaded was told = record {
   was = was_run memory o1 o2 before after told.entries left was told.run;
-  schedule = subst (λ o. IfTold o (λ text. FailsAt text (events_of told.entries) number kind))
-      (loaded.told Schedule ∙ left Schedule read_schedule) told.schedule;
+  schedule = IfTold-same _ (loaded.told Schedule ∙ left Schedule read_schedule) told.schedule;
   report = told.report;
 }
 
@@ -162,14 +158,14 @@ was_run_from memory o0 o1 kept was = record {
   entries = was.entries;
   end = was.end;
   stands = was.stands;
-  read = subst (λ o. IfTold o (λ disk. was.sectors ≡ sectors_of_disk disk)) (kept Disk) was.read;
+  read = IfTold-same _ (kept Disk) was.read;
   run = was.run;
 }
 
 pub done_from : (memory : ℕ) (o0 o1 o5 : Outside) → KeepsAllFiles o0 o1 → IsDone memory o1 o5 → IsDone memory o0 o5
 done_from memory o0 o1 o5 kept done = record {
   was = was_run_from memory o0 o1 kept done.was;
-  schedule = subst (λ o. IfTold o (λ text. IsSchedule text (events_of done.was.entries))) (kept Schedule) done.schedule;
+  schedule = IfTold-same _ (kept Schedule) done.schedule;
   report = done.report;
   out = done.out;
   whole = done.whole;
@@ -181,7 +177,7 @@ pub bad_line_since : (memory : ℕ) (o0 o1 o4 : Outside) (number : ℕ) (kind : 
     → IsBadLine memory o1 o4 number kind → IsBadLine memory o0 o4 number kind
 bad_line_since memory o0 o1 o4 number kind kept bad = record {
   was = was_run_from memory o0 o1 kept bad.was;
-  schedule = subst (λ o. IfTold o (λ text. FailsAt text (events_of bad.was.entries) number kind)) (kept Schedule) bad.schedule;
+  schedule = IfTold-same _ (kept Schedule) bad.schedule;
   report = bad.report;
 }
 
@@ -194,6 +190,6 @@ bad_line_told words o0 o4 o5 number kind kept bad = record {
   holds = record {
     was = bad.holds.was;
     schedule = bad.holds.schedule;
-    report = subst (λ o. IfTold o (λ text. text ≡ history_text bad.holds.was.entries)) (sym (kept.told Report (λ e. cc))) bad.holds.report;
+    report = IfTold-same _ (sym (kept.told Report (λ e. cc))) bad.holds.report;
   };
 }
