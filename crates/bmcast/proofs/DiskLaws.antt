@@ -10,7 +10,7 @@ use Rattle.bm_host.proofs.OutsideLaws.{same_counts_trans}
 use Rattle.plain_drive.specs.Physical.{Physical}
 use Rattle.plain_drive.specs.Plain.{sectors_in}
 use Rattle.plain_drive.proofs.Sectors.{sectors_in-more}
-use Rattle.bmcast.specs.Streams.{KeepsFilesBut}
+use Rattle.bmcast.specs.Kept.{KeepsFilesBut}
 use Rattle.bmcast.specs.Waiting.{KeepsWaiting, Waits}
 use Rattle.bmcast.proofs.WaitingLaws.{Waits-none, Waits-all}
 

@@ -6,7 +6,8 @@ use Rattle.bm_host.specs.declared.Role.TheVariants.{Schedule}
 use Rattle.schedule_text.specs.Schedule.{IsOneLine}
 use Rattle.bmcast.specs.declared.streams.Streams.{Streams}
 use Rattle.bmcast.proofs.Told.{IfTold-both, IfTold-same}
-use Rattle.bmcast.specs.Streams.{unread, Takes, KeepsFiles, KeepsSaid}
+use Rattle.bmcast.specs.Kept.{KeepsFiles}
+use Rattle.bmcast.specs.Streams.{unread, Takes, KeepsSaid}
 
 -- these bytes were taken, the front of a line, and nothing else happened
 pub record TakesFront (from to : Streams) (old new : Outside) (front : List ℕ) : Type 0 where

@@ -7,7 +7,8 @@ use Rattle.schedule_text.specs.declared.Item.{Item}
 use Rattle.schedule_text.specs.Report.{line_text}
 use Rattle.plain_run.specs.Entry.{items_text}
 use Rattle.bmcast.specs.declared.streams.Streams.{Streams}
-use Rattle.bmcast.specs.Streams.{Appends, Said, KeepsFiles, KeepsUnread}
+use Rattle.bmcast.specs.Kept.{KeepsFiles}
+use Rattle.bmcast.specs.Streams.{Appends, Said, KeepsUnread}
 
 -- these lines were appended, and nothing else happened
 pub record ReportsFront (from to : Streams) (old new : Outside) (lines : List ℕ) : Type 0 where

@@ -9,8 +9,8 @@ use Rattle.bm_host.proofs.OutsideLaws.{same_counts_trans, only_rose_after, same_
 use Rattle.bmcast.specs.declared.stop.Stop.{Stop}
 use Rattle.bmcast.specs.declared.stop.Stop.TheVariants as stop
 use Rattle.bmcast.specs.Stop.{Stopped, OnBadLine, UnlessFault}
-use Rattle.bmcast.specs.Status.{OnlyConsole, HasItsCause, IsTold, OnBadLineStatus, SameConsole, UnlessDone, status_of}
-use Rattle.bmcast.specs.Kept.{IsLeft, LeavesFiles}
+use Rattle.bmcast.specs.Status.{OnlyConsole, HasItsCause, IsTold, OnBadLineStatus, UnlessDone, status_of}
+use Rattle.bmcast.specs.Kept.{IsLeft, LeavesFiles, SameConsole}
 use Rattle.bmcast.specs.declared.Status.{Status}
 use Rattle.bmcast.specs.declared.Status.TheVariants as status
 

@@ -96,10 +96,6 @@ HasItsReason (status.WriteFault role) words o = Chooses words o CanRun
 HasItsReason status.NoMemory words o = Chooses words o CanRun
 HasItsReason (status.ReadFault role) words o = Chooses words o (λ block image disk. Unit {0})
 
--- Console holds what it held
-abbrev pub SameConsole : Outside → Outside → Type 0
-SameConsole old new = new.told Console ≡ old.told Console
-
 -- a fact for every status but Done
 abbrev pub UnlessDone : Status → Type 0 → Type 0
 UnlessDone status.Done P = Unit {0}

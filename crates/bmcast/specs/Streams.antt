@@ -1,7 +1,6 @@
 -- The schedule as it is read in blocks, and the report as it is written in blocks.
 use Rattle.std.specs.Prelude.{ℕ, ◌≡◌, ◌≢◌, ◌≤◌, ◌++◌, List, [], ◌∷◌, length, take, drop, Option, Some, None}
 use Rattle.bm_host.specs.declared.Role.TheVariants.{Schedule, Report}
-use Rattle.bm_host.specs.declared.Role.{Role}
 use Rattle.bm_host.specs.Outside.{Outside}
 use Rattle.bmcast.specs.Waiting.{Waits}
 use Rattle.schedule_text.specs.declared.TheConstants.{LINE_BYTES}
@@ -30,14 +29,6 @@ Appends from to old new lines = (text : List ℕ) → Said from old text → Sai
 abbrev pub KeepsUnread : Streams → Streams → Outside → Outside → Type 0
 KeepsUnread from to old new = (text : List ℕ) → unread to new text ≡ unread from old text
 
--- no role but this one holds anything else
-abbrev pub KeepsFilesBut : Role → Outside → Outside → Type 0
-KeepsFilesBut written old new = (role : Role) → role ≢ written → new.told role ≡ old.told role
-
--- no role but Report holds anything else
-abbrev pub KeepsFiles : Outside → Outside → Type 0
-KeepsFiles old new = KeepsFilesBut Report old new
-
 -- the next byte was taken, where there is one
 abbrev pub Takes : Option ℕ → List ℕ → List ℕ → Type 0
 Takes None old new = (old ≡ []) × (new ≡ [])
@@ -55,7 +46,3 @@ Fetches fetched.TooLong line old new = IsOneLine line × (LINE_BYTES ≤ length 
 abbrev pub fetched_at_end : List ℕ → Fetched
 fetched_at_end [] = fetched.Nothing
 fetched_at_end (byte ∷ line) = fetched.LastLine
-
--- no role holds anything else
-abbrev pub KeepsAllFiles : Outside → Outside → Type 0
-KeepsAllFiles old new = (role : Role) → new.told role ≡ old.told role

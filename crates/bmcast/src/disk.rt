@@ -9,7 +9,7 @@ ghost use Rattle.bmcast.specs.Lengths.{HasLength};
 ghost use Rattle.bmcast.specs.Machine.{list_of, physical};
 ghost use Rattle.bmcast.specs.Run.{drive_over, sectors_of_disk};
 ghost use Rattle.bmcast.specs.Stop.{Ended, IsFault, IsLateFault};
-ghost use Rattle.bmcast.specs.Streams.{KeepsFilesBut};
+ghost use Rattle.bmcast.specs.Kept.{KeepsFilesBut};
 ghost use Rattle.bmcast.specs.Waiting.{Waits};
 
 use crate::machine::Machine;

@@ -5,10 +5,9 @@ ghost use Rattle.bm_host.specs.Outside.{Outside, Counted, Reads, begin_side, beg
 ghost use Rattle.fill_bitmap.specs.Area.{IsBlock};
 ghost use Rattle.bm_host.specs.declared.Role.TheVariants.{Image, Disk};
 ghost use Rattle.bmcast.specs.Lengths.{CanRun, HasLength, IfLengths, StopsFor, why_of};
-ghost use Rattle.bmcast.specs.Kept.{IsUnopened, LeavesFiles};
-ghost use Rattle.bmcast.specs.Status.{SameConsole, status_after};
+ghost use Rattle.bmcast.specs.Kept.{IsUnopened, KeepsAllFiles, KeepsFilesBut, LeavesFiles, SameConsole};
+ghost use Rattle.bmcast.specs.Status.{status_after};
 ghost use Rattle.bmcast.specs.Stop.{Ended, IsEarly};
-ghost use Rattle.bmcast.specs.Streams.{KeepsAllFiles, KeepsFilesBut};
 
 use crate::Why;
 use crate::stop::Stop;

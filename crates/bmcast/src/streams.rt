@@ -41,7 +41,8 @@ impl Streams {
     ghost use Rattle.schedule_text.specs.Report.{end_text, line_text};
     ghost use Rattle.plain_run.specs.Entry.{items_text};
     ghost use Rattle.bmcast.specs.Stop.{Ended, IsFault};
-    ghost use Rattle.bmcast.specs.Streams.{unread, Appends, Takes, Fetches, KeepsFiles, KeepsSaid, KeepsUnread};
+    ghost use Rattle.bmcast.specs.Kept.{KeepsFiles};
+    ghost use Rattle.bmcast.specs.Streams.{unread, Appends, Takes, Fetches, KeepsSaid, KeepsUnread};
 
     /// Nothing read and nothing to write.
     pub fn new() -> Streams
