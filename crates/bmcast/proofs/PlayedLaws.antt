@@ -19,8 +19,7 @@ use Rattle.bmcast.specs.declared.play.Progress.TheVariants as progress
 use Rattle.bmcast.specs.declared.streams.Streams.{Streams}
 use Rattle.bmcast.specs.Kept.{KeepsFiles}
 use Rattle.bmcast.specs.Streams.{unread, Appends, Said, KeepsSaid, KeepsUnread}
-use Rattle.bmcast.specs.Played.{HasPlayed, HasTaken, HasDone, HasDoneEnd, HasEnded, IsNextLine, IsPlayed, Leads}
-use Rattle.bmcast.specs.BadLine.{HasFailed}
+use Rattle.bmcast.specs.Played.{HasPlayed, HasTaken, HasDone, HasDoneEnd, HasEnded, IsNextLine, IsPlayed, Leads, HasFailed}
 use Rattle.bmcast.proofs.Told.{IfTold-both, IfTold-weaker, IfTold-same}
 use Rattle.bmcast.proofs.Lines.{read_next, fails_next}
 

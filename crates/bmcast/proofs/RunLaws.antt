@@ -15,10 +15,9 @@ use Rattle.plain_run.proofs.Sectors.{run_length}
 use Rattle.plain_run.proofs.Named.{only_named, run_whole}
 use Rattle.bmcast.specs.declared.streams.Streams.{Streams}
 use Rattle.bmcast.specs.Streams.{unread, Appends, KeepsSaid}
-use Rattle.bmcast.specs.Played.{HasPlayed, HasEnded}
+use Rattle.bmcast.specs.Played.{HasPlayed, HasEnded, HasFailed}
 use Rattle.bmcast.specs.Run.{IsReady, IsReported, IsStopped, WasRun, IsDone, IsBadLine, RunIsBad, drive_over, drives_over, sectors_of_disk}
 use Rattle.schedule_text.specs.declared.LineFault.{LineFault}
-use Rattle.bmcast.specs.BadLine.{HasFailed}
 use Rattle.bmcast.specs.Kept.{IsLeft, KeepsAllFiles, KeepsFiles, KeepsFilesBut, LeavesFiles}
 use Rattle.bmcast.specs.declared.Status.TheVariants as status
 use Rattle.bmcast.proofs.Told.{IfTold-weaker, IfTold-all, IfTold-same}

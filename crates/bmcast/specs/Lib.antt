@@ -8,6 +8,5 @@ pub mod Lengths
 pub mod Run
 pub mod Status
 pub mod StatusLine
-pub mod BadLine
 pub mod Kept
 pub mod Owed

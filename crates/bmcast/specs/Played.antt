@@ -6,7 +6,9 @@ use Rattle.plain_drive.specs.Physical.{Physical}
 use Rattle.schedule_text.specs.declared.Event.{Event}
 use Rattle.schedule_text.specs.declared.Event.TheVariants as event
 use Rattle.schedule_text.specs.declared.TheConstants.{LAST_LINE}
+use Rattle.schedule_text.specs.declared.LineFault.{LineFault}
 use Rattle.schedule_text.specs.Schedule.{HasNoEnd, HasRead, IsEnded, IsSchedule}
+use Rattle.schedule_text.specs.BadLine.{FailsAt}
 use Rattle.plain_run.specs.Entry.{Entry, events_of, history_text}
 use Rattle.plain_run.specs.Run.{IsDriveRun}
 use Rattle.bmcast.specs.declared.play.Progress.{Progress}
@@ -71,6 +73,13 @@ pub record HasEnded (start : Physical) (s : Streams) (o : Outside) (now : Physic
   pub played : IsPlayed start s o now entries
   pub schedule : IfTold (o.told Schedule) (λ text. IsSchedule text (events_of entries))
   pub length : length entries ≡ number
+
+-- the events before the first bad line were read, done and reported
+pub record HasFailed (start : Physical) (s : Streams) (o : Outside) (now : Physical) (number : ℕ)
+    (kind : LineFault) : Type 0 where
+  pub entries : List Entry
+  pub played : IsPlayed start s o now entries
+  pub fails : IfTold (o.told Schedule) (λ text. FailsAt text (events_of entries) number kind)
 
 -- after a line of this number the schedule goes on, or it has ended
 abbrev pub Progresses : Progress → Physical → Streams → Outside → Physical → ℕ → Type 0

@@ -9,11 +9,10 @@ ghost use Rattle.schedule_text.specs.Line.{Says, IsInRange};
 ghost use Rattle.schedule_text.specs.BadLine.{LineFails};
 ghost use Rattle.plain_run.specs.Entry.{entry_of, items_text};
 ghost use Rattle.plain_run.specs.Run.{DriveEvent};
-ghost use Rattle.bmcast.specs.BadLine.{HasFailed};
 ghost use Rattle.bmcast.specs.Stop.{Ended, IsFault, IsPlayStop, OnBadLine, UnlessFault};
 ghost use Rattle.bmcast.specs.Kept.{KeepsFiles};
 ghost use Rattle.bmcast.specs.Streams.{unread, Appends, KeepsSaid, KeepsUnread};
-ghost use Rattle.bmcast.specs.Played.{HasPlayed, HasTaken, HasDone, HasEnded, Leads, Progresses};
+ghost use Rattle.bmcast.specs.Played.{HasPlayed, HasTaken, HasDone, HasEnded, Leads, Progresses, HasFailed};
 
 use crate::events::apply;
 use crate::machine::Machine;

@@ -8,9 +8,8 @@ ghost use Rattle.run_words.specs.Pairs.{texts};
 ghost use Rattle.bmcast.specs.Kept.{IsUnopened, KeepsFiles, LeavesFiles, SameConsole};
 ghost use Rattle.bmcast.specs.Lengths.{CanRun, HasLength};
 ghost use Rattle.bmcast.specs.Stop.{Ended, IsFault, IsLate, IsPlayStop, OnBadLine};
-ghost use Rattle.bmcast.specs.BadLine.{HasFailed};
 ghost use Rattle.bmcast.specs.Status.{Chooses, HasItsReason, OnNoMemory, status_after};
-ghost use Rattle.bmcast.specs.Played.{HasPlayed, HasEnded};
+ghost use Rattle.bmcast.specs.Played.{HasPlayed, HasEnded, HasFailed};
 ghost use Rattle.bmcast.specs.Run.{IsReady, IsReported, IsStopped, IsDone, IsBadLine, RunIsBad, RunIsDone};
 
 use crate::disk::{load, write_out};
