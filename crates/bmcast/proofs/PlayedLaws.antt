@@ -18,7 +18,7 @@ use Rattle.bmcast.specs.declared.play.Progress.{Progress}
 use Rattle.bmcast.specs.declared.play.Progress.TheVariants as progress
 use Rattle.bmcast.specs.declared.streams.Streams.{Streams}
 use Rattle.bmcast.specs.Kept.{KeepsFiles}
-use Rattle.bmcast.specs.Streams.{unread, Appends, Said, KeepsSaid, KeepsUnread}
+use Rattle.bmcast.specs.Streams.{unread, Said, KeepsSaid, Reports}
 use Rattle.bmcast.specs.Played.{HasPlayed, HasTaken, HasDone, HasDoneEnd, HasEnded, IsNextLine, IsPlayed, Leads, HasFailed}
 use Rattle.bmcast.proofs.Told.{IfTold-both, IfTold-weaker, IfTold-same}
 use Rattle.bmcast.proofs.Lines.{read_next, fails_next}
@@ -79,20 +79,19 @@ taken_failed start s o now line number bad kind within is fails was = record {
 module _ (start : Physical) (from to : Streams) (old new : Outside) (before after : Physical) (line : List ℕ) (number : ℕ)
     (e : Event) (items : List Item) (bytes : List ℕ) (says : Says line e) (same : new.told Schedule ≡ old.told Schedule)
     (event : DriveEvent before (entry_of e items bytes) after)
-    (told : Appends from to old new (items_text number items bytes))
-    (kept : KeepsUnread from to old new)
+    (told : Reports from to old new (items_text number items bytes))
     (was : HasTaken start from old before line number) where
   event_done : IsPlayed start to new after (entry_of e items bytes ∷ was.entries)
   event_done = record {
     run = (before, was.played.run, event);
     said = subst (λ k. Said to new (history_text was.entries ++ items_text k items bytes)) (sym was.next)
-        (told (history_text was.entries) was.played.said);
+        (told.0 (history_text was.entries) was.played.said);
   }
 
   read_done : IfTold (new.told Schedule) (λ text. HasRead text (unread to new text) (e ∷ events_of was.entries))
   read_done = IfTold-same _ (sym same)
       (IfTold-weaker (old.told Schedule) _ _
-      (λ text taken. subst (λ left. HasRead text left (e ∷ events_of was.entries)) (sym (kept text))
+      (λ text taken. subst (λ left. HasRead text left (e ∷ events_of was.entries)) (sym (told.1 text))
       (read_next text line (unread from old text) e (events_of was.entries) says taken))
       was.taken)
 

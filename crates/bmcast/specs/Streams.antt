@@ -29,6 +29,10 @@ Appends from to old new lines = (text : List ℕ) → Said from old text → Sai
 abbrev pub KeepsUnread : Streams → Streams → Outside → Outside → Type 0
 KeepsUnread from to old new = (text : List ℕ) → unread to new text ≡ unread from old text
 
+-- these bytes are appended to the report, and nothing of the schedule is taken
+abbrev pub Reports : Streams → Streams → Outside → Outside → List ℕ → Type 0
+Reports from to old new lines = Appends from to old new lines × KeepsUnread from to old new
+
 -- the next byte was taken, where there is one
 abbrev pub Takes : Option ℕ → List ℕ → List ℕ → Type 0
 Takes None old new = (old ≡ []) × (new ≡ [])

@@ -11,7 +11,7 @@ ghost use Rattle.plain_run.specs.Entry.{entry_of, items_text};
 ghost use Rattle.plain_run.specs.Run.{DriveEvent};
 ghost use Rattle.bmcast.specs.Stop.{Ended, IsFault, IsPlayStop, OnBadLine, UnlessFault};
 ghost use Rattle.bmcast.specs.Kept.{KeepsFiles};
-ghost use Rattle.bmcast.specs.Streams.{unread, Appends, KeepsSaid, KeepsUnread};
+ghost use Rattle.bmcast.specs.Streams.{unread, KeepsSaid, Reports};
 ghost use Rattle.bmcast.specs.Played.{HasPlayed, HasTaken, HasDone, HasEnded, Leads, Progresses, HasFailed};
 
 use crate::events::apply;
@@ -188,11 +188,9 @@ fn do_event<H: Host>(
     ensures files { KeepsFiles (H.outside host.old) (H.outside host.new) }
     ensures event { DriveEvent (physical machine.old)
         (entry_of event.now out.new.items.items out.new.bytes.items) (physical machine.new) }
-    ensures said { OnOk result
-        (Appends streams.old streams.new (H.outside host.old) (H.outside host.new)
+    ensures reported { OnOk result
+        (Reports streams.old streams.new (H.outside host.old) (H.outside host.new)
         (items_text number out.new.items.items out.new.bytes.items)) }
-    ensures unread { OnOk result
-        (KeepsUnread streams.old streams.new (H.outside host.old) (H.outside host.new)) }
 {
     out.clear();
     apply(machine, event, out);

@@ -42,7 +42,7 @@ impl Streams {
     ghost use Rattle.plain_run.specs.Entry.{items_text};
     ghost use Rattle.bmcast.specs.Stop.{Ended, IsFault};
     ghost use Rattle.bmcast.specs.Kept.{KeepsFiles};
-    ghost use Rattle.bmcast.specs.Streams.{unread, Appends, Takes, Fetches, KeepsSaid, KeepsUnread};
+    ghost use Rattle.bmcast.specs.Streams.{unread, Takes, Fetches, KeepsSaid, Reports};
 
     /// Nothing read and nothing to write.
     pub fn new() -> Streams
@@ -78,11 +78,9 @@ impl Streams {
         ensures counts { Ended result (H.outside host.old) (H.outside host.new) }
         ensures fault { IfErr result IsFault }
         ensures files { KeepsFiles (H.outside host.old) (H.outside host.new) }
-        ensures said { OnOk result
-            (Appends self.old self.new (H.outside host.old) (H.outside host.new)
+        ensures reported { OnOk result
+            (Reports self.old self.new (H.outside host.old) (H.outside host.new)
             (items_text number out.now.items.items out.now.bytes.items)) }
-        ensures unread { OnOk result
-            (KeepsUnread self.old self.new (H.outside host.old) (H.outside host.new)) }
     {
         for item in out.items.as_slice() {
             self.report_item(host, number, item, out.bytes.as_slice())?;
@@ -101,11 +99,9 @@ impl Streams {
         ensures counts { Ended result (H.outside host.old) (H.outside host.new) }
         ensures fault { IfErr result IsFault }
         ensures files { KeepsFiles (H.outside host.old) (H.outside host.new) }
-        ensures said { OnOk result
-            (Appends self.old self.new (H.outside host.old) (H.outside host.new)
+        ensures reported { OnOk result
+            (Reports self.old self.new (H.outside host.old) (H.outside host.new)
             (line_text number item.now bytes.now)) }
-        ensures unread { OnOk result
-            (KeepsUnread self.old self.new (H.outside host.old) (H.outside host.new)) }
     {
         write_item(number, item, bytes, &mut self.line);
         self.push_line(host)
@@ -116,11 +112,9 @@ impl Streams {
         ensures counts { Ended result (H.outside host.old) (H.outside host.new) }
         ensures fault { IfErr result IsFault }
         ensures files { KeepsFiles (H.outside host.old) (H.outside host.new) }
-        ensures said { OnOk result
-            (Appends self.old self.new (H.outside host.old) (H.outside host.new)
+        ensures reported { OnOk result
+            (Reports self.old self.new (H.outside host.old) (H.outside host.new)
             (end_text number)) }
-        ensures unread { OnOk result
-            (KeepsUnread self.old self.new (H.outside host.old) (H.outside host.new)) }
     {
         write_end(number, &mut self.line);
         self.push_line(host)
@@ -131,11 +125,9 @@ impl Streams {
         ensures counts { Ended result (H.outside host.old) (H.outside host.new) }
         ensures fault { IfErr result IsFault }
         ensures files { KeepsFiles (H.outside host.old) (H.outside host.new) }
-        ensures said { OnOk result
-            (Appends self.old self.new (H.outside host.old) (H.outside host.new)
+        ensures reported { OnOk result
+            (Reports self.old self.new (H.outside host.old) (H.outside host.new)
             (self.old.line.items)) }
-        ensures unread { OnOk result
-            (KeepsUnread self.old self.new (H.outside host.old) (H.outside host.new)) }
     {
         make_room(host, Role::Report, &mut self.pending, REPORT_LINE)?;
         self.pending

@@ -10,7 +10,7 @@ returns-clause-reported g c =
     (g.H.Host.outside c.args.host.now) (g.H.Host.outside c.play_to_end.new.host) (g.H.Host.outside c.report_end.new.host)
     (g.H.Host.outside c.flush.new.host)
     _ _ c.in-Ok.number c.requires.ready c.new-streams.ensures.pending c.new-streams.ensures.block c.in-Ok.ensures.ended
-    (c.in-Ok.ensures.files Schedule (λ e. cc)) c.in_ok-report_end.ensures.said c.in_ok-flush.ensures.said c.in_ok-flush.ensures.empty
+    (c.in-Ok.ensures.files Schedule (λ e. cc)) c.in_ok-report_end.ensures.reported.0 c.in_ok-flush.ensures.said c.in_ok-flush.ensures.empty
 
 pub returns-in-Err-clause-bad : goal.returns-in-Err-clause-bad
 returns-in-Err-clause-bad g c =

@@ -9,5 +9,4 @@ loop-item-preserved g c =
     (g.H.Host.outside c.loop-item.host) (g.H.Host.outside c.report_item.new.host)
     c.args.number c.loop-item.item-index c.args.out.now.items.items c.as_slice-item-items.result.now Answer c.args.out.now.bytes.items
     c.as_slice-item-items.ensures.value (grind arith) c.loop-item.invariant c.in_ok-report_item.ensures.counts
-    c.in_ok-report_item.ensures.files (rw c.as_slice.ensures.value at c.in_ok-report_item.ensures.said)
-    c.in_ok-report_item.ensures.unread
+    c.in_ok-report_item.ensures.files (rw c.as_slice.ensures.value at c.in_ok-report_item.ensures.reported)
