@@ -78,7 +78,7 @@ pub record IsDone (memory : ℕ) (old new : Outside) : Type 0 where
   pub unnamed : (s : ℕ) → is_named s was.entries ≡ false
       → slice_index_or was.end.physical.kept.durable s [] ≡ slice_index_or was.sectors s []
 
--- the run ended at a bad line: its number and its kind are those of the schedule's first, and
+-- the run ended at a bad line, whose number and kind are those of the schedule's first:
 pub record IsBadLine (memory : ℕ) (old new : Outside) (number : ℕ) (kind : LineFault) : Type 0 where
   pub was : WasRun memory old
   -- the lines before it are those of these events, and it is the first that isn't one, for this fault
