@@ -24,7 +24,8 @@ words_left n i w now next got half more whole below so_far read step low high =
     let left : n - i ≡ suc (n - (i + 1)) = omega arith in
     rw (high, low, step) (simp append_assoc (rw read (rw left at so_far)))
 
-pub after_words_left : (n i : ℕ) (now next end : Device) → i < n → after_words (n - i) now ≡ end → next ≡ after_read_word now → after_words (n - (i + 1)) next ≡ end
+pub after_words_left : (n i : ℕ) (now next end : Device) → i < n → after_words (n - i) now ≡ end
+    → next ≡ after_read_word now → after_words (n - (i + 1)) next ≡ end
 unfolding after_words
 after_words_left n i now next end below so_far step =
     let left : n - i ≡ suc (n - (i + 1)) = omega arith in
@@ -47,12 +48,9 @@ bytes_left place n i byte memory got more whole below so_far read one =
     let next : place + i + 1 ≡ place + (i + 1) = omega arith in
     rw (one, read) (simp append_assoc (rw next at (rw left at so_far)))
 
--- at the end none is left
-pub no_bytes_left : (place n : ℕ) (memory got whole : List ℕ) → got ++ memory_read (place + n) (n - n) memory ≡ whole → got ≡ whole
-no_bytes_left place n memory got whole so_far = let none : n - n ≡ 0 = omega arith in sym (append-nil got) ∙ (rw none at so_far)
-
 -- where the words that are still to be written lead, after one of them
-pub words_to_write : (left : List ℕ) (k w : ℕ) (now next end : Device) → 2 ≤ length left → k ≡ length left - 2 → w ≡ get_or left 0 0 + 256 * get_or left 1 0
+pub words_to_write : (left : List ℕ) (k w : ℕ) (now next end : Device) → 2 ≤ length left → k ≡ length left - 2
+    → w ≡ get_or left 0 0 + 256 * get_or left 1 0
     → next ≡ after_write_word w now → after_written (words_of left) now ≡ end → after_written (words_of (take k (drop 2 left))) next ≡ end
 unfolding after_written
 words_to_write [] k w now next end two rest is step so_far = absurd (omega arith)

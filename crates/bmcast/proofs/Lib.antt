@@ -5,6 +5,7 @@ pub mod EventLaws
 pub mod Reporting
 pub mod Lines
 pub mod Told
+pub mod WaitingLaws
 pub mod StopLaws
 pub mod PlayedLaws
 pub mod DiskLaws

@@ -34,8 +34,9 @@ both_lengths : {R : Type 0} (words : List (List ℕ)) (o : Outside) (P Q : ℕ �
 both_lengths words o P Q joined chosen offered =
     both_told (o.told Image) _ _
     (λ image p q. both_told (o.told Disk) _ _ (λ disk p q. joined offered.choice.sizes.block (length image) (length disk) p q) p q)
-    (subst (λ (choice : Choice). IfLengths o (P choice.sizes.block)) (says_once words chosen.choice offered.choice chosen.says offered.says) chosen.lengths)
-    offered.lengths
+    (subst (λ (choice : Choice). IfLengths o (P choice.sizes.block))
+    (says_once words chosen.choice offered.choice chosen.says offered.says) chosen.holds)
+    offered.holds
 
 -- lengths that are refused for a reason aren't suitable
 refused_suitable : (reason : Why) (refusal : Option Unsuitable) → option_map why_of refusal ≡ Some reason → refusal ≡ None → ⊥
@@ -56,80 +57,91 @@ not_yet_can_run : (block image disk : ℕ) → IsNotYet block image disk → Can
 not_yet_can_run block image disk later can = let filled = later.filled in let empty = can.empty in omega arith
 
 -- the answer is Usage: no words choose a run
-usage_owed : (words : List (List ℕ)) (old : Outside) (owed : Status) → HasItsReason status.Usage words old → IsOwed owed words old → status.Usage ≡ owed
+usage_owed : (words : List (List ℕ)) (old : Outside) (owed : Status) → HasItsReason status.Usage words old
+    → IsOwed owed words old → status.Usage ≡ owed
 usage_owed words old status.Usage none is = refl
 usage_owed words old (status.Unsuitable reason) none is = absurd (none is.choice is.says)
 usage_owed words old status.NotYet none is = absurd (none is.choice is.says)
 usage_owed words old (status.BadLine n kind) none is = absurd (none is.0.choice is.0.says)
 usage_owed words old status.Done none is = absurd (none is.0.choice is.0.says)
-usage_owed words old (status.ReadFault role) none is = absurd is
-usage_owed words old (status.WriteFault role) none is = absurd is
-usage_owed words old status.NoMemory none is = absurd is
+usage_owed words old never none is = absurd is
 
 -- the answer is that the lengths aren't suitable
-unsuitable_owed : (words : List (List ℕ)) (old : Outside) (why : Why) (owed : Status) → HasItsReason (status.Unsuitable why) words old → IsOwed owed words old → status.Unsuitable why ≡ owed
+unsuitable_owed : (words : List (List ℕ)) (old : Outside) (why : Why) (owed : Status) → HasItsReason (status.Unsuitable why) words old
+    → IsOwed owed words old → status.Unsuitable why ≡ owed
 unsuitable_owed words old why status.Usage reason is = absurd (is reason.choice reason.says)
-unsuitable_owed words old why (status.Unsuitable other) reason is = ap (λ w. status.Unsuitable w) (both_lengths words old _ _ (one_reason why other) reason is)
+unsuitable_owed words old why (status.Unsuitable other) reason is =
+    ap (λ w. status.Unsuitable w) (both_lengths words old _ _ (one_reason why other) reason is)
 unsuitable_owed words old why status.NotYet reason is = absurd (both_lengths words old _ _ (unsuitable_not_yet why) reason is)
 unsuitable_owed words old why (status.BadLine n kind) reason is = absurd (both_lengths words old _ _ (unsuitable_can_run why) reason is.0)
 unsuitable_owed words old why status.Done reason is = absurd (both_lengths words old _ _ (unsuitable_can_run why) reason is.0)
-unsuitable_owed words old why (status.ReadFault role) reason is = absurd is
-unsuitable_owed words old why (status.WriteFault role) reason is = absurd is
-unsuitable_owed words old why status.NoMemory reason is = absurd is
+unsuitable_owed words old why never reason is = absurd is
 
 -- the answer is NotYet
-not_yet_owed : (words : List (List ℕ)) (old : Outside) (owed : Status) → HasItsReason status.NotYet words old → IsOwed owed words old → status.NotYet ≡ owed
+not_yet_owed : (words : List (List ℕ)) (old : Outside) (owed : Status) → HasItsReason status.NotYet words old
+    → IsOwed owed words old → status.NotYet ≡ owed
 not_yet_owed words old status.Usage reason is = absurd (is reason.choice reason.says)
-not_yet_owed words old (status.Unsuitable why) reason is = absurd (both_lengths words old _ _ (λ block image disk later refused. unsuitable_not_yet why block image disk refused later) reason is)
+not_yet_owed words old (status.Unsuitable why) reason is =
+    absurd (both_lengths words old _ _ (λ block image disk later refused. unsuitable_not_yet why block image disk refused later) reason is)
 not_yet_owed words old status.NotYet reason is = refl
 not_yet_owed words old (status.BadLine n kind) reason is = absurd (both_lengths words old _ _ not_yet_can_run reason is.0)
 not_yet_owed words old status.Done reason is = absurd (both_lengths words old _ _ not_yet_can_run reason is.0)
-not_yet_owed words old (status.ReadFault role) reason is = absurd is
-not_yet_owed words old (status.WriteFault role) reason is = absurd is
-not_yet_owed words old status.NoMemory reason is = absurd is
+not_yet_owed words old never reason is = absurd is
 
 -- words and lengths are good, and so is what the schedule owes
 runs_owed : (words : List (List ℕ)) (old : Outside) (answer owed : Status) → Chooses words old CanRun
-    → ((n : ℕ) (kind : LineFault) → IsSomeAnd (old.told Schedule) (λ text. (events : List Event) × FailsAt text events n kind) → answer ≡ status.BadLine n kind)
+    → ((n : ℕ) (kind : LineFault) → IsSomeAnd (old.told Schedule) (λ text. (events : List Event) × FailsAt text events n kind)
+    → answer ≡ status.BadLine n kind)
     → (IsSomeAnd (old.told Schedule) (λ text. (events : List Event) × IsSchedule text events) → answer ≡ status.Done)
     → IsOwed owed words old → answer ≡ owed
 runs_owed words old answer status.Usage can bad done is = absurd (is can.choice can.says)
-runs_owed words old answer (status.Unsuitable why) can bad done is = absurd (both_lengths words old _ _ (λ block image disk good refused. unsuitable_can_run why block image disk refused good) can is)
-runs_owed words old answer status.NotYet can bad done is = absurd (both_lengths words old _ _ (λ block image disk good later. not_yet_can_run block image disk later good) can is)
+runs_owed words old answer (status.Unsuitable why) can bad done is =
+    absurd (both_lengths words old _ _ (λ block image disk good refused. unsuitable_can_run why block image disk refused good) can is)
+runs_owed words old answer status.NotYet can bad done is =
+    absurd (both_lengths words old _ _ (λ block image disk good later. not_yet_can_run block image disk later good) can is)
 runs_owed words old answer (status.BadLine n kind) can bad done is = bad n kind is.1
 runs_owed words old answer status.Done can bad done is = done is.1
-runs_owed words old answer (status.ReadFault role) can bad done is = absurd is
-runs_owed words old answer (status.WriteFault role) can bad done is = absurd is
-runs_owed words old answer status.NoMemory can bad done is = absurd is
+runs_owed words old answer never can bad done is = absurd is
 
 -- the first bad line of a schedule that has one is the one that was found
-bad_line_found : (words : List (List ℕ)) (old new : Outside) (n : ℕ) (kind : LineFault) (owed : Status) → Chooses words old CanRun → RunIsBad words old new n kind → IsOwed owed words old → status.BadLine n kind ≡ owed
+bad_line_found : (words : List (List ℕ)) (old new : Outside) (n : ℕ) (kind : LineFault) (owed : Status)
+    → Chooses words old CanRun → RunIsBad words old new n kind → IsOwed owed words old → status.BadLine n kind ≡ owed
 bad_line_found words old new n kind owed can bad is = runs_owed words old (status.BadLine n kind) owed can
-    (λ m other there. both_told (old.told Schedule) _ _ (λ text found fails. let same = bad_line_once text _ _ n m kind other found fails.1 in ap (λ k. status.BadLine k kind) same.0 ∙ ap (λ f. status.BadLine m f) same.1) bad.holds.schedule there)
-    (λ there. absurd (both_told (old.told Schedule) _ _ (λ text found whole. no_bad_line text whole.0 _ n kind whole.1 found) bad.holds.schedule there))
+    (λ m other there. both_told (old.told Schedule) _ _
+    (λ text found fails.
+    let same = bad_line_once text _ _ n m kind other found fails.1 in
+    ap (λ k. status.BadLine k kind) same.0 ∙ ap (λ f. status.BadLine m f) same.1)
+    bad.holds.schedule there)
+    (λ there. absurd (both_told (old.told Schedule) _ _
+    (λ text found whole. no_bad_line text whole.0 _ n kind whole.1 found) bad.holds.schedule there))
     is
 
 -- a whole schedule is done
-whole_done : (words : List (List ℕ)) (old new : Outside) (owed : Status) → Chooses words old CanRun → RunIsDone words old new → IsOwed owed words old → status.Done ≡ owed
+whole_done : (words : List (List ℕ)) (old new : Outside) (owed : Status) → Chooses words old CanRun
+    → RunIsDone words old new → IsOwed owed words old → status.Done ≡ owed
 whole_done words old new owed can was is = runs_owed words old status.Done owed can
-    (λ n kind there. absurd (both_told (old.told Schedule) _ _ (λ text whole fails. no_bad_line text _ fails.0 n kind whole fails.1) was.holds.schedule there))
+    (λ n kind there. absurd (both_told (old.told Schedule) _ _
+    (λ text whole fails. no_bad_line text _ fails.0 n kind whole fails.1) was.holds.schedule there))
     (λ there. refl)
     is
 
 -- where no count rose the answer is the one that is owed, or want of memory
-pub owed_answer : (words : List (List ℕ)) (old new : Outside) (answer : Status) → HasItsReason answer words old → OnBadLineStatus answer (RunIsBad words old new) → OnDone answer (RunIsDone words old new)
+pub owed_answer : (words : List (List ℕ)) (old new : Outside) (answer : Status) → HasItsReason answer words old
+    → OnBadLineStatus answer (RunIsBad words old new) → OnDone answer (RunIsDone words old new)
     → HasItsCause answer old new → AnswersWhatIsOwed answer words old new
 owed_answer words old new status.Usage reason bad done cause owed is none = inl (usage_owed words old owed reason is)
 owed_answer words old new (status.Unsuitable why) reason bad done cause owed is none = inl (unsuitable_owed words old why owed reason is)
 owed_answer words old new status.NotYet reason bad done cause owed is none = inl (not_yet_owed words old owed reason is)
-owed_answer words old new (status.BadLine n kind) reason bad done cause owed is none = inl (bad_line_found words old new n kind owed reason bad is)
+owed_answer words old new (status.BadLine n kind) reason bad done cause owed is none =
+    inl (bad_line_found words old new n kind owed reason bad is)
 owed_answer words old new status.Done reason bad done cause owed is none = inl (whole_done words old new owed reason done is)
 owed_answer words old new (status.ReadFault role) reason bad done cause owed is none = absurd (none Reads role cause.rose)
 owed_answer words old new (status.WriteFault role) reason bad done cause owed is none = absurd (none Writes role cause.rose)
 owed_answer words old new status.NoMemory reason bad done cause owed is none = inr refl
 
 -- the same of a run that stopped
-pub owed_stop : (words : List (List ℕ)) (old new : Outside) (why : Stop) → HasItsReason (status_of why) words old → OnBadLineStatus (status_of why) (RunIsBad words old new)
+pub owed_stop : (words : List (List ℕ)) (old new : Outside) (why : Stop) → HasItsReason (status_of why) words old
+    → OnBadLineStatus (status_of why) (RunIsBad words old new)
     → HasItsCause (status_of why) old new → AnswersWhatIsOwed (status_of why) words old new
 owed_stop words old new (stop.BadLine n kind) reason bad cause = owed_answer words old new (status.BadLine n kind) reason bad tt cause
 owed_stop words old new other reason bad cause = owed_answer words old new (status_of other) reason tt tt cause

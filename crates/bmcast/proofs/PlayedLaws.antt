@@ -10,17 +10,17 @@ use Rattle.schedule_text.specs.declared.LineFault.{LineFault}
 use Rattle.schedule_text.specs.declared.LineFault.TheVariants as fault
 use Rattle.schedule_text.specs.declared.TheConstants.{LAST_LINE}
 use Rattle.schedule_text.specs.Line.{Says}
-use Rattle.schedule_text.specs.Schedule.{HasNoEnd, HasRead, IsSchedule}
+use Rattle.schedule_text.specs.Schedule.{HasNoEnd, HasRead}
 use Rattle.schedule_text.specs.BadLine.{LineFails, FailsAt}
 use Rattle.plain_run.specs.Entry.{Entry, entry_of, events_of, history_text, items_text}
-use Rattle.plain_run.specs.Run.{DriveEvent, IsDriveRun}
+use Rattle.plain_run.specs.Run.{DriveEvent}
 use Rattle.bmcast.specs.declared.play.Progress.{Progress}
 use Rattle.bmcast.specs.declared.play.Progress.TheVariants as progress
 use Rattle.bmcast.specs.declared.streams.Streams.{Streams}
-use Rattle.bmcast.specs.Streams.{unread, Appends, Said, KeepsFiles, KeepsSaid, KeepsUnread}
-use Rattle.bmcast.specs.Played.{HasPlayed, HasTaken, HasDone, HasDoneEnd, HasEnded, IsNextLine, Leads}
-use Rattle.bmcast.specs.BadLine.{HasFailed}
-use Rattle.bmcast.proofs.Told.{IfTold-both, IfTold-weaker}
+use Rattle.bmcast.specs.Kept.{KeepsFiles}
+use Rattle.bmcast.specs.Streams.{unread, Said, KeepsSaid, Reports}
+use Rattle.bmcast.specs.Played.{HasPlayed, HasTaken, HasDone, HasDoneEnd, HasEnded, IsNextLine, IsPlayed, Leads, HasFailed}
+use Rattle.bmcast.proofs.Told.{IfTold-both, IfTold-weaker, IfTold-same}
 use Rattle.bmcast.proofs.Lines.{read_next, fails_next}
 
 -- a history has as many events as entries
@@ -28,15 +28,22 @@ events_length : (entries : List Entry) → length (events_of entries) ≡ length
 events_length [] = refl
 events_length (entry ∷ entries) = ap suc (events_length entries)
 
+-- what was reported stays reported, when nothing else was
+still_played : (start : Physical) (from to : Streams) (old new : Outside) (now : Physical) (entries : List Entry)
+    → KeepsSaid from to old new → IsPlayed start from old now entries → IsPlayed start to new now entries
+still_played start from to old new now entries said was = record { run = was.run; said = said (history_text entries) was.said }
+
 -- the next line was taken
 pub line_taken : (start : Physical) (from to : Streams) (old new : Outside) (now : Physical) (line : List ℕ) (number : ℕ)
     → new.told Schedule ≡ old.told Schedule → KeepsSaid from to old new
-    → IfTold (old.told Schedule) (λ text. (events : List Event) → HasRead text (unread from old text) events → IsNextLine text (unread to new text) events line)
+    → IfTold (old.told Schedule) (λ text. (events : List Event) → HasRead text (unread from old text) events
+    → IsNextLine text (unread to new text) events line)
     → HasPlayed start from old now number → HasTaken start to new now line number
 line_taken start from to old new now line number same said taken was = record {
   entries = was.entries;
-  played = record { run = was.played.run; said = said (history_text was.entries) was.played.said; unended = was.played.unended };
-  taken = subst (λ o. IfTold o (λ text. IsNextLine text (unread to new text) (events_of was.entries) line)) (sym same)
+  played = still_played start from to old new now was.entries said was.played;
+  unended = was.unended;
+  taken = IfTold-same _ (sym same)
       (IfTold-both (old.told Schedule) _ _ _ (λ text one read. one (events_of was.entries) read) taken was.read);
   next = was.next;
 }
@@ -44,14 +51,15 @@ line_taken start from to old new now line number same said taken was = record {
 -- there is no next line: what was played before has failed there
 pub none_taken : (start : Physical) (from to : Streams) (old new : Outside) (now : Physical) (number : ℕ) (kind : LineFault)
     → new.told Schedule ≡ old.told Schedule → KeepsSaid from to old new
-    → IfTold (old.told Schedule) (λ text. (events : List Event) → HasNoEnd events → length events + 1 ≡ number → HasRead text (unread from old text) events → FailsAt text events number kind)
+    → IfTold (old.told Schedule) (λ text. (events : List Event) → HasNoEnd events → length events + 1 ≡ number
+    → HasRead text (unread from old text) events → FailsAt text events number kind)
     → HasPlayed start from old now number → HasFailed start to new now number kind
 none_taken start from to old new now number kind same said fails was = record {
   entries = was.entries;
-  run = was.played.run;
-  fails = subst (λ o. IfTold o (λ text. FailsAt text (events_of was.entries) number kind)) (sym same)
-      (IfTold-both (old.told Schedule) _ _ _ (λ text step read. step (events_of was.entries) was.played.unended (ap (λ k. k + 1) (events_length was.entries) ∙ was.next) read) fails was.read);
-  said = said (history_text was.entries) was.played.said;
+  played = still_played start from to old new now was.entries said was.played;
+  fails = IfTold-same _ (sym same)
+      (IfTold-both (old.told Schedule) _ _ _ (λ text step read. step (events_of was.entries) was.unended
+      (ap (λ k. k + 1) (events_length was.entries) ∙ was.next) read) fails was.read);
 }
 
 -- the line that was taken fails
@@ -59,46 +67,47 @@ pub taken_failed : (start : Physical) (s : Streams) (o : Outside) (now : Physica
     → number ≤ LAST_LINE → bad ≡ number → LineFails kind number line → HasTaken start s o now line number → HasFailed start s o now bad kind
 taken_failed start s o now line number bad kind within is fails was = record {
   entries = was.entries;
-  run = was.played.run;
+  played = was.played;
   fails = subst (λ k. IfTold (o.told Schedule) (λ text. FailsAt text (events_of was.entries) k kind)) (sym is)
       (IfTold-weaker (o.told Schedule) _ _
-      (λ text taken. fails_next text (events_of was.entries) number within was.played.unended (ap (λ k. k + 1) (events_length was.entries) ∙ was.next) kind line (unread s o text) fails taken)
+      (λ text taken. fails_next text (events_of was.entries) number within was.unended
+      (ap (λ k. k + 1) (events_length was.entries) ∙ was.next) kind line (unread s o text) fails taken)
       was.taken);
-  said = was.played.said;
 }
 
 -- it says an event, which was done and reported
 module _ (start : Physical) (from to : Streams) (old new : Outside) (before after : Physical) (line : List ℕ) (number : ℕ)
     (e : Event) (items : List Item) (bytes : List ℕ) (says : Says line e) (same : new.told Schedule ≡ old.told Schedule)
     (event : DriveEvent before (entry_of e items bytes) after)
-    (told : Appends from to old new (items_text number items bytes))
-    (kept : KeepsUnread from to old new)
+    (told : Reports from to old new (items_text number items bytes))
     (was : HasTaken start from old before line number) where
-  run_done : IsDriveRun start (entry_of e items bytes ∷ was.entries) after
-  run_done = (before, was.played.run, event)
-
-  said_done : Said to new (history_text (entry_of e items bytes ∷ was.entries))
-  said_done = subst (λ k. Said to new (history_text was.entries ++ items_text k items bytes)) (sym was.next) (told (history_text was.entries) was.played.said)
+  event_done : IsPlayed start to new after (entry_of e items bytes ∷ was.entries)
+  event_done = record {
+    run = (before, was.played.run, event);
+    said = subst (λ k. Said to new (history_text was.entries ++ items_text k items bytes)) (sym was.next)
+        (told.0 (history_text was.entries) was.played.said);
+  }
 
   read_done : IfTold (new.told Schedule) (λ text. HasRead text (unread to new text) (e ∷ events_of was.entries))
-  read_done = subst (λ o. IfTold o (λ text. HasRead text (unread to new text) (e ∷ events_of was.entries))) (sym same)
+  read_done = IfTold-same _ (sym same)
       (IfTold-weaker (old.told Schedule) _ _
-      (λ text taken. subst (λ left. HasRead text left (e ∷ events_of was.entries)) (sym (kept text)) (read_next text line (unread from old text) e (events_of was.entries) says taken))
+      (λ text taken. subst (λ left. HasRead text left (e ∷ events_of was.entries)) (sym (told.1 text))
+      (read_next text line (unread from old text) e (events_of was.entries) says taken))
       was.taken)
 
   pub line_done : (goes : Progress) → number ≤ LAST_LINE → Leads goes e number → HasDone goes start to new after number
   line_done progress.More within leads = record {
     entries = entry_of e items bytes ∷ was.entries;
-    played = record { run = run_done; said = said_done; unended = (leads.0, was.played.unended) };
+    played = event_done;
+    unended = (leads.0, was.unended);
     read = read_done;
     next = let counted = was.next in omega arith;
   }
   line_done progress.Ended within leads = record {
     entries = entry_of e items bytes ∷ was.entries;
-    run = run_done;
-    said = said_done;
+    played = event_done;
     read = read_done;
-    ended = (leads, (was.played.unended, let counted = was.next in let events = events_length was.entries in omega arith));
+    ended = (leads, (was.unended, let counted = was.next in let events = events_length was.entries in omega arith));
     length = let counted = was.next in omega arith;
   }
 
@@ -108,10 +117,10 @@ pub played_out : (start : Physical) (s to : Streams) (o new : Outside) (now : Ph
     → HasDoneEnd start s o now number → HasEnded start to new now number
 played_out start s to o new now number same nothing said done = record {
   entries = done.entries;
-  run = done.run;
-  schedule = subst (λ told. IfTold told (λ text. IsSchedule text (events_of done.entries))) (sym same)
-      (IfTold-both (o.told Schedule) _ _ _ (λ text read end. (done.ended, subst (λ left. HasRead text left (events_of done.entries)) end read)) done.read nothing);
-  said = said (history_text done.entries) done.said;
+  played = still_played start s to o new now done.entries said done.played;
+  schedule = IfTold-same _ (sym same)
+      (IfTold-both (o.told Schedule) _ _ _
+      (λ text read end. (done.ended, subst (λ left. HasRead text left (events_of done.entries)) end read)) done.read nothing);
   length = done.length;
 }
 
@@ -122,16 +131,15 @@ pub failed_behind : (start : Physical) (s to : Streams) (o new : Outside) (now :
     → HasDoneEnd start s o now number → HasFailed start to new now bad kind
 failed_behind start s to o new now number bad kind same said is trailing some done = record {
   entries = done.entries;
-  run = done.run;
+  played = still_played start s to o new now done.entries said done.played;
   fails = subst (λ k. IfTold (new.told Schedule) (λ text. FailsAt text (events_of done.entries) bad k)) (sym trailing)
-      (subst (λ told. IfTold told (λ text. FailsAt text (events_of done.entries) bad fault.Trailing)) (sym same)
+      (IfTold-same _ (sym same)
       (IfTold-both (o.told Schedule) _ _ _ (λ text read left. record {
         left = unread s o text;
         read = read;
         next = ap (λ k. k + 1) (events_length done.entries ∙ done.length) ∙ sym is;
         fails = (done.ended, left);
       }) done.read some));
-  said = said (history_text done.entries) done.said;
 }
 
 -- the report is written, and nothing else happens
@@ -140,9 +148,8 @@ pub failed_on : (start : Physical) (s to : Streams) (o new : Outside) (now : Phy
     → HasFailed start s o now number kind → HasFailed start to new now number kind
 failed_on start s to o new now number kind same said failed = record {
   entries = failed.entries;
-  run = failed.run;
-  fails = subst (λ told. IfTold told (λ text. FailsAt text (events_of failed.entries) number kind)) (sym same) failed.fails;
-  said = said (history_text failed.entries) failed.said;
+  played = still_played start s to o new now failed.entries said failed.played;
+  fails = IfTold-same _ (sym same) failed.fails;
 }
 
 -- so far in the loop over lines: no count rose, no file but the report changed, and the lines before this number were played

@@ -1,12 +1,13 @@
 -- A line of the schedule that is taken byte by byte.
-use Rattle.std.proofs.Common.{◌≡◌, ◌≢◌, ◌++◌, ℕ, List, [], ◌∷◌, Some, append_assoc, ◌∙◌, ap, sym, subst}
+use Rattle.std.proofs.Common.{◌≡◌, ◌≢◌, ◌++◌, ℕ, List, [], ◌∷◌, Some, append_assoc, ◌∙◌, ap, sym}
 use Rattle.bm_host.specs.Outside.{Outside, IfTold, SameCounts}
 use Rattle.bm_host.proofs.OutsideLaws.{same_counts_trans}
 use Rattle.bm_host.specs.declared.Role.TheVariants.{Schedule}
 use Rattle.schedule_text.specs.Schedule.{IsOneLine}
 use Rattle.bmcast.specs.declared.streams.Streams.{Streams}
-use Rattle.bmcast.proofs.Told.{IfTold-both}
-use Rattle.bmcast.specs.Streams.{unread, Takes, KeepsFiles, KeepsSaid}
+use Rattle.bmcast.proofs.Told.{IfTold-both, IfTold-same}
+use Rattle.bmcast.specs.Kept.{KeepsFiles}
+use Rattle.bmcast.specs.Streams.{unread, Takes, KeepsSaid}
 
 -- these bytes were taken, the front of a line, and nothing else happened
 pub record TakesFront (from to : Streams) (old new : Outside) (front : List ℕ) : Type 0 where
@@ -31,6 +32,9 @@ TakesFront-push from mid to old now new front byte so counts files said taken di
   counts = same_counts_trans old now new so.counts counts;
   files = λ role other. files role other ∙ so.files role other;
   said = λ text was. said text (so.said text was);
-  bytes = IfTold-both (old.told Schedule) _ _ _ (λ text was one. was ∙ ap (λ rest. front ++ rest) one ∙ sym (append_assoc front (byte ∷ []) (unread to new text))) so.bytes (subst (λ o. IfTold o (λ text. Takes (Some byte) (unread mid now text) (unread to new text))) (so.files Schedule (λ e. cc)) taken);
+  bytes = IfTold-both (old.told Schedule) _ _ _
+      (λ text was one. was ∙ ap (λ rest. front ++ rest) one ∙ sym (append_assoc front (byte ∷ []) (unread to new text)))
+      so.bytes
+      (IfTold-same _ (so.files Schedule (λ e. cc)) taken);
   one = IsOneLine-push front byte so.one differs;
 }

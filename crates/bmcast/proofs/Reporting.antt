@@ -7,32 +7,42 @@ use Rattle.schedule_text.specs.declared.Item.{Item}
 use Rattle.schedule_text.specs.Report.{line_text}
 use Rattle.plain_run.specs.Entry.{items_text}
 use Rattle.bmcast.specs.declared.streams.Streams.{Streams}
-use Rattle.bmcast.specs.Streams.{Appends, Said, KeepsFiles, KeepsUnread}
+use Rattle.bmcast.specs.Kept.{KeepsFiles}
+use Rattle.bmcast.specs.Streams.{Said, Reports}
 
 -- these lines were appended, and nothing else happened
 pub record ReportsFront (from to : Streams) (old new : Outside) (lines : List ℕ) : Type 0 where
   pub counts : SameCounts old new
   pub files : KeepsFiles old new
-  pub said : Appends from to old new lines
-  pub unread : KeepsUnread from to old new
+  pub reports : Reports from to old new lines
 
 -- a line more
-items_text-push : (number : ℕ) (items : List Item) (one : Item) (bytes : List ℕ) → items_text number (items ++ one ∷ []) bytes ≡ items_text number items bytes ++ line_text number one bytes
+items_text-push : (number : ℕ) (items : List Item) (one : Item) (bytes : List ℕ)
+    → items_text number (items ++ one ∷ []) bytes ≡ items_text number items bytes ++ line_text number one bytes
 items_text-push number [] one bytes = append-nil (line_text number one bytes)
-items_text-push number (first ∷ items) one bytes = ap (λ xs. line_text number first bytes ++ xs) (items_text-push number items one bytes) ∙ sym (append_assoc (line_text number first bytes) (items_text number items bytes) (line_text number one bytes))
+items_text-push number (first ∷ items) one bytes =
+    ap (λ xs. line_text number first bytes ++ xs) (items_text-push number items one bytes)
+    ∙ sym (append_assoc (line_text number first bytes) (items_text number items bytes) (line_text number one bytes))
 
 pub ReportsFront-line : (from mid to : Streams) (old now new : Outside) (number i : ℕ) (items shown : List Item) (d : Item) (bytes : List ℕ)
     → shown ≡ items → i < length shown
     → ReportsFront from mid old now (items_text number (take i items) bytes)
     → SameCounts now new → KeepsFiles now new
-    → Appends mid to now new (line_text number (get_or shown i d) bytes) → KeepsUnread mid to now new
+    → Reports mid to now new (line_text number (get_or shown i d) bytes)
     → ReportsFront from to old new (items_text number (take (i + 1) items) bytes)
-ReportsFront-line from mid to old now new number i items shown d bytes same below so counts files said unread_same = record {
+ReportsFront-line from mid to old now new number i items shown d bytes same below so counts files told = record {
   counts = same_counts_trans old now new so.counts counts;
   files = λ role other. files role other ∙ so.files role other;
-  said = λ text was. subst (Said to new) (append_assoc text (items_text number (take i items) bytes) (line_text number (get_or shown i d) bytes) ∙ ap (λ xs. text ++ xs) (sym more)) (said (text ++ items_text number (take i items) bytes) (so.said text was));
-  unread = λ text. unread_same text ∙ so.unread text;
+  reports = (
+    λ text was. subst (Said to new)
+        (append_assoc text (items_text number (take i items) bytes) (line_text number (get_or shown i d) bytes)
+        ∙ ap (λ xs. text ++ xs) (sym more))
+        (told.0 (text ++ items_text number (take i items) bytes) (so.reports.0 text was)),
+    λ text. told.1 text ∙ so.reports.1 text,
+  );
 }
   where
-    more : items_text number (take (i + 1) items) bytes ≡ items_text number (take i items) bytes ++ line_text number (get_or shown i d) bytes
-    more = let there : i < length items = subst (λ xs. i < length xs) same below in rw (same, take_more items i d) (items_text-push number (take i items) (get_or items i d) bytes)
+    more : items_text number (take (i + 1) items) bytes
+        ≡ items_text number (take i items) bytes ++ line_text number (get_or shown i d) bytes
+    more = let there : i < length items = subst (λ xs. i < length xs) same below in
+        rw (same, take_more items i d) (items_text-push number (take i items) (get_or items i d) bytes)

@@ -1,5 +1,5 @@
 -- A whole run, from its steps.
-use Rattle.std.proofs.Common.{◌≡◌, ◌*◌, ◌/◌, ◌++◌, ◌≤◌, ℕ, List, [], length, take, All, replicate, refl, sym, ◌∙◌, ap, subst, inl, arith, append-nil, length-take}
+use Rattle.std.proofs.Common.{◌≡◌, ◌*◌, ◌/◌, ◌++◌, ◌≤◌, ℕ, List, [], length, take, All, replicate, refl, sym, ◌∙◌, ap, subst, inl, arith, length-take}
 use Rattle.std.proofs.Math.ListN.{drop_of_length-le}
 use Rattle.bm_host.specs.declared.Role.TheVariants.{Disk, Schedule, Report, Out, Console}
 use Rattle.bm_host.specs.Outside.{Outside, IfTold, SameBytes, SameElsewhere}
@@ -8,22 +8,20 @@ use Rattle.plain_drive.specs.Physical.{Physical}
 use Rattle.plain_drive.proofs.Sectors.{length-sectors, sectors_in-concat}
 use Rattle.plain_drive.proofs.Standing.{fresh_stands, durable_are_outcome}
 use Rattle.schedule_text.specs.Report.{end_text}
-use Rattle.schedule_text.specs.Schedule.{IsSchedule}
-use Rattle.plain_run.specs.Entry.{Entry, events_of, history_text, report_text}
+use Rattle.plain_run.specs.Entry.{Entry, history_text}
 use Rattle.plain_run.specs.Run.{IsDriveRun, HasPlainRun, drives}
 use Rattle.plain_run.proofs.Standing.{drives_run}
 use Rattle.plain_run.proofs.Sectors.{run_length}
 use Rattle.plain_run.proofs.Named.{only_named, run_whole}
 use Rattle.bmcast.specs.declared.streams.Streams.{Streams}
-use Rattle.bmcast.specs.Streams.{unread, Appends, KeepsAllFiles, KeepsFiles, KeepsFilesBut, KeepsSaid}
-use Rattle.bmcast.specs.Played.{HasPlayed, HasEnded}
-use Rattle.bmcast.specs.Run.{IsReady, IsReported, IsStopped, IsDone, IsBadLine, RunIsBad, drive_over, drives_over, sectors_of_disk}
+use Rattle.bmcast.specs.Streams.{unread, Appends, KeepsSaid}
+use Rattle.bmcast.specs.Played.{HasPlayed, HasEnded, HasFailed}
+use Rattle.bmcast.specs.Run.{IsReady, IsReported, IsStopped, WasRun, IsDone, IsBadLine, RunIsBad, drive_over, drives_over, sectors_of_disk}
 use Rattle.schedule_text.specs.declared.LineFault.{LineFault}
-use Rattle.schedule_text.specs.BadLine.{FailsAt}
-use Rattle.bmcast.specs.BadLine.{HasFailed}
-use Rattle.bmcast.specs.Kept.{LeavesFiles, IsLeft}
+use Rattle.bmcast.specs.Kept.{IsLeft, KeepsAllFiles, KeepsFiles, KeepsFilesBut, LeavesFiles}
 use Rattle.bmcast.specs.declared.Status.TheVariants as status
-use Rattle.bmcast.proofs.Told.{IfTold-weaker, IfTold-all}
+use Rattle.bmcast.proofs.Told.{IfTold-weaker, IfTold-all, IfTold-same}
+use Rattle.bmcast.proofs.WaitingLaws.{Waits-none, Waits-all}
 
 -- before the first line
 played_none : (s : Streams) (o : Outside) (p : Physical) → IsReady o → s.pending.items ≡ [] → s.at ≡ s.end → HasPlayed p s o p 1
@@ -31,9 +29,9 @@ played_none s o p ready none taken = record {
   entries = [];
   played = record {
     run = refl;
-    said = IfTold-weaker (o.told Report) _ _ (λ written empty. ap (λ xs. written ++ xs) none ∙ append-nil written ∙ empty) ready.report;
-    unended = tt;
+    said = Waits-none Report o s.pending.items none ready.report;
   };
+  unended = tt;
   read = IfTold-all (o.told Schedule) _ (λ text. ([], refl, inl (sym (all text))));
   next = refl;
 }
@@ -54,11 +52,11 @@ reported s0 s1 s2 s3 o0 o1 o2 o3 before after number ready none taken ended same
     let h = ended before (played_none s0 o0 before ready none taken) in
     record {
       entries = h.entries;
-      run = h.run;
-      schedule = subst (λ told. IfTold told (λ text. IsSchedule text (events_of h.entries))) same h.schedule;
-      report = IfTold-weaker (o3.told Report) _ _
-          (λ written said. sym (append-nil written) ∙ ap (λ xs. written ++ xs) (sym empty) ∙ said ∙ ap (λ n. history_text h.entries ++ end_text n) (sym h.length))
-          (flushed (history_text h.entries ++ end_text number) (end_said (history_text h.entries) h.said));
+      run = h.played.run;
+      schedule = IfTold-same _ same h.schedule;
+      report = subst (λ n. IfTold (o3.told Report) (λ text. text ≡ history_text h.entries ++ end_text n)) (sym h.length)
+          (Waits-all Report o3 s3.pending.items (history_text h.entries ++ end_text number) empty
+          (flushed (history_text h.entries ++ end_text number) (end_said (history_text h.entries) h.played.said)));
     }
 
 -- the schedule was played to its first bad line, and the report before it is written
@@ -71,9 +69,9 @@ stopped s0 s1 o0 o1 before after number kind ready none taken failed same empty 
     let h = failed before (played_none s0 o0 before ready none taken) in
     record {
       entries = h.entries;
-      run = h.run;
-      schedule = subst (λ told. IfTold told (λ text. FailsAt text (events_of h.entries) number kind)) same h.fails;
-      report = IfTold-weaker (o1.told Report) _ _ (λ written said. sym (append-nil written) ∙ ap (λ xs. written ++ xs) (sym empty) ∙ said) h.said;
+      run = h.played.run;
+      schedule = IfTold-same _ same h.fails;
+      report = Waits-all Report o1 s1.pending.items (history_text h.entries) empty h.played.said;
     }
 
 -- a run that is done leaves what it read
@@ -90,7 +88,8 @@ pub record IsLoaded (memory : ℕ) (o : Outside) (before : Physical) : Type 0 wh
   pub disk : IfTold (o.told Disk) (λ disk. before.kept.durable ≡ sectors_of_disk disk)
 
 -- the plain drive that began with these sectors has the run of the physical one
-beside : (memory : ℕ) (before after : Physical) (entries : List Entry) → before ≡ drive_over memory before.kept.durable → IsDriveRun before entries after
+beside : (memory : ℕ) (before after : Physical) (entries : List Entry) → before ≡ drive_over memory before.kept.durable
+    → IsDriveRun before entries after
     → HasPlainRun (drives_over memory before.kept.durable).plain (drive_over memory before.kept.durable) entries after
 beside memory before after entries began run =
     let sectors = before.kept.durable in
@@ -99,11 +98,26 @@ beside memory before after entries began run =
     (subst (λ start. IsDriveRun start entries after) began run)
 
 -- out has the sectors that were durable at the end
-out_sectors : (out : List ℕ) (sectors : List (List ℕ)) → All (λ sector. length sector ≡ 512) sectors → out ≡ concat sectors → sectors_of_disk out ≡ sectors
+out_sectors : (out : List ℕ) (sectors : List (List ℕ)) → All (λ sector. length sector ≡ 512) sectors
+    → out ≡ concat sectors → sectors_of_disk out ≡ sectors
 out_sectors out sectors whole written =
     let long : length out ≡ 512 * length sectors = ap length written ∙ length-sectors sectors whole in
     let count : length out / 512 ≡ length sectors = omega arith in
     rw (count, written) (sectors_in-concat sectors whole)
+
+-- what was run from the drive that was made of the disk
+abbrev was_run : (memory : ℕ) (o1 o2 : Outside) (before after : Physical) (entries : List Entry)
+    → LeavesFiles status.Done o1 o2 → IsLoaded memory o2 before → IsDriveRun before entries after → WasRun memory o1
+was_run memory o1 o2 before after entries left was run =
+    let plain = beside memory before after entries was.began run in
+    record {
+      sectors = before.kept.durable;
+      entries = entries;
+      end = drives plain.plain after;
+      stands = plain.stands;
+      read = IfTold-same _ (left Disk read_disk) was.disk;
+      run = plain.run;
+    }
 
 -- all steps of a run from the moment at which image and disk are known
 pub done : (o1 o2 o3 o4 o5 : Outside) (before after : Physical) (memory : ℕ)
@@ -116,16 +130,12 @@ done o1 o2 o3 o4 o5 before after memory left loaded played written was told out 
     let whole = run_whole 64 before.kept.durable (replicate memory 0) told.entries after was.sectors run in
     let count = run_length before after told.entries told.run in
     record {
-      sectors = before.kept.durable;
-      entries = told.entries;
-      end = drives plain.plain after;
-      stands = plain.stands;
-      read = subst (λ o. IfTold o (λ disk. before.kept.durable ≡ sectors_of_disk disk)) (left Disk read_disk) was.disk;
-      schedule = subst (λ o. IfTold o (λ text. IsSchedule text (events_of told.entries))) (loaded.told Schedule ∙ left Schedule read_schedule) told.schedule;
-      report = subst (λ o. IfTold o (λ text. text ≡ report_text told.entries)) (sym (written Report (λ e. cc))) told.report;
-      run = plain.run;
+      was = was_run memory o1 o2 before after told.entries left was told.run;
+      schedule = IfTold-same _ (loaded.told Schedule ∙ left Schedule read_schedule) told.schedule;
+      report = IfTold-same _ (sym (written Report (λ e. cc))) told.report;
       out = IfTold-weaker (o5.told Out) _ _ (λ bytes e. out_sectors bytes after.kept.durable whole e) out;
-      whole = IfTold-weaker (o5.told Out) _ _ (λ bytes e. ap length e ∙ length-sectors after.kept.durable whole ∙ ap (λ n. 512 * n) count) out;
+      whole = IfTold-weaker (o5.told Out) _ _
+          (λ bytes e. ap length e ∙ length-sectors after.kept.durable whole ∙ ap (λ n. 512 * n) count) out;
       outcome = durable_are_outcome after plain.plain plain.stands;
       unnamed = only_named 64 before.kept.durable (replicate memory 0) told.entries after was.sectors run;
     }
@@ -134,61 +144,51 @@ done o1 o2 o3 o4 o5 before after memory left loaded played written was told out 
 pub bad_line : (o1 o2 o3 o4 : Outside) (before after : Physical) (memory number : ℕ) (kind : LineFault)
     → LeavesFiles status.Done o1 o2 → SameBytes o2 o3 → IsLoaded memory o2 before
     → IsStopped o3 o4 before after number kind → IsBadLine memory o1 o4 number kind
-bad_line o1 o2 o3 o4 before after memory number kind left loaded was told =
-    let plain = beside memory before after told.entries was.began told.run in
-    record {
-      sectors = before.kept.durable;
-      entries = told.entries;
-      end = drives plain.plain after;
-      stands = plain.stands;
-      read = subst (λ o. IfTold o (λ disk. before.kept.durable ≡ sectors_of_disk disk)) (left Disk read_disk) was.disk;
-      schedule = subst (λ o. IfTold o (λ text. FailsAt text (events_of told.entries) number kind)) (loaded.told Schedule ∙ left Schedule read_schedule) told.schedule;
-      report = told.report;
-      run = plain.run;
-    }
+bad_line o1 o2 o3 o4 before after memory number kind left loaded was told = record {
+  was = was_run memory o1 o2 before after told.entries left was told.run;
+  schedule = IfTold-same _ (loaded.told Schedule ∙ left Schedule read_schedule) told.schedule;
+  report = told.report;
+}
 
 -- the same from the start of the run, when no file had changed
-pub done_from : (memory : ℕ) (o0 o1 o5 : Outside) → KeepsAllFiles o0 o1 → IsDone memory o1 o5 → IsDone memory o0 o5
-done_from memory o0 o1 o5 kept was = record {
+abbrev was_run_from : (memory : ℕ) (o0 o1 : Outside) → KeepsAllFiles o0 o1 → WasRun memory o1 → WasRun memory o0
+was_run_from memory o0 o1 kept was = record {
   sectors = was.sectors;
   entries = was.entries;
   end = was.end;
   stands = was.stands;
-  read = subst (λ o. IfTold o (λ disk. was.sectors ≡ sectors_of_disk disk)) (kept Disk) was.read;
-  schedule = subst (λ o. IfTold o (λ text. IsSchedule text (events_of was.entries))) (kept Schedule) was.schedule;
-  report = was.report;
+  read = IfTold-same _ (kept Disk) was.read;
   run = was.run;
-  out = was.out;
-  whole = was.whole;
-  outcome = was.outcome;
-  unnamed = was.unnamed;
 }
 
-pub bad_line_since : (memory : ℕ) (o0 o1 o4 : Outside) (number : ℕ) (kind : LineFault) → KeepsAllFiles o0 o1 → IsBadLine memory o1 o4 number kind → IsBadLine memory o0 o4 number kind
+pub done_from : (memory : ℕ) (o0 o1 o5 : Outside) → KeepsAllFiles o0 o1 → IsDone memory o1 o5 → IsDone memory o0 o5
+done_from memory o0 o1 o5 kept done = record {
+  was = was_run_from memory o0 o1 kept done.was;
+  schedule = IfTold-same _ (kept Schedule) done.schedule;
+  report = done.report;
+  out = done.out;
+  whole = done.whole;
+  outcome = done.outcome;
+  unnamed = done.unnamed;
+}
+
+pub bad_line_since : (memory : ℕ) (o0 o1 o4 : Outside) (number : ℕ) (kind : LineFault) → KeepsAllFiles o0 o1
+    → IsBadLine memory o1 o4 number kind → IsBadLine memory o0 o4 number kind
 bad_line_since memory o0 o1 o4 number kind kept bad = record {
-  sectors = bad.sectors;
-  entries = bad.entries;
-  end = bad.end;
-  stands = bad.stands;
-  read = subst (λ o. IfTold o (λ disk. bad.sectors ≡ sectors_of_disk disk)) (kept Disk) bad.read;
-  schedule = subst (λ o. IfTold o (λ text. FailsAt text (events_of bad.entries) number kind)) (kept Schedule) bad.schedule;
+  was = was_run_from memory o0 o1 kept bad.was;
+  schedule = IfTold-same _ (kept Schedule) bad.schedule;
   report = bad.report;
-  run = bad.run;
 }
 
 -- the same after the line on Console
-pub bad_line_told : (words : List (List ℕ)) (o0 o4 o5 : Outside) (number : ℕ) (kind : LineFault) → SameElsewhere Console o4 o5 → RunIsBad words o0 o4 number kind → RunIsBad words o0 o5 number kind
+pub bad_line_told : (words : List (List ℕ)) (o0 o4 o5 : Outside) (number : ℕ) (kind : LineFault) → SameElsewhere Console o4 o5
+    → RunIsBad words o0 o4 number kind → RunIsBad words o0 o5 number kind
 bad_line_told words o0 o4 o5 number kind kept bad = record {
   choice = bad.choice;
   says = bad.says;
   holds = record {
-    sectors = bad.holds.sectors;
-    entries = bad.holds.entries;
-    end = bad.holds.end;
-    stands = bad.holds.stands;
-    read = bad.holds.read;
+    was = bad.holds.was;
     schedule = bad.holds.schedule;
-    run = bad.holds.run;
-    report = subst (λ o. IfTold o (λ text. text ≡ history_text bad.holds.entries)) (sym (kept.told Report (λ e. cc))) bad.holds.report;
+    report = IfTold-same _ (sym (kept.told Report (λ e. cc))) bad.holds.report;
   };
 }

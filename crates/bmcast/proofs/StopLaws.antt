@@ -1,6 +1,6 @@
 -- What several calls owe of the outside, one after the other.
 use Rattle.std.proofs.Common.{◌≡◌, ◌≢◌, ◌≤◌, ◌⊎◌, ◌++◌, ℕ, List, inl, inr, refl, sym, subst, ◌∙◌, arith}
-use Rattle.std.specs.Prelude.{Result, Ok, Err}
+use Rattle.std.specs.Prelude.{Result, Err}
 use Rattle.schedule_text.specs.declared.LineFault.{LineFault}
 use Rattle.bm_host.specs.declared.Role.{Role}
 use Rattle.bm_host.specs.Outside.{Outside, SameElsewhere, SameCounts, Rose, Reads, Writes, Becomes, AppendsPrefix}
@@ -8,9 +8,9 @@ use Rattle.bm_host.specs.declared.Role.TheVariants.{Console}
 use Rattle.bm_host.proofs.OutsideLaws.{same_counts_trans, only_rose_after, same_role}
 use Rattle.bmcast.specs.declared.stop.Stop.{Stop}
 use Rattle.bmcast.specs.declared.stop.Stop.TheVariants as stop
-use Rattle.bmcast.specs.Stop.{Stopped, Ended, OnBadLine, UnlessFault}
-use Rattle.bmcast.specs.Status.{OnlyConsole, HasItsCause, IsTold, OnBadLineStatus, SameConsole, UnlessDone, status_of}
-use Rattle.bmcast.specs.Kept.{IsLeft, LeavesFiles}
+use Rattle.bmcast.specs.Stop.{Stopped, OnBadLine, UnlessFault}
+use Rattle.bmcast.specs.Status.{OnlyConsole, HasItsCause, IsTold, OnBadLineStatus, UnlessDone, status_of}
+use Rattle.bmcast.specs.Kept.{IsLeft, LeavesFiles, SameConsole}
 use Rattle.bmcast.specs.declared.Status.{Status}
 use Rattle.bmcast.specs.declared.Status.TheVariants as status
 
@@ -19,11 +19,6 @@ pub stopped_after : (a b c : Outside) (why : Stop) → SameCounts a b → Stoppe
 stopped_after a b c (stop.ReadFault role) same then = only_rose_after Reads role a b c same then
 stopped_after a b c (stop.WriteFault role) same then = only_rose_after Writes role a b c same then
 stopped_after a b c other same then = same_counts_trans a b c same then
-
--- a call after calls that raised no count
-pub ended_after : {T : Type 0} (a b c : Outside) (result : Result T Stop) → SameCounts a b → Ended result b c → Ended result a c
-ended_after a b c (Ok x) same then = same_counts_trans a b c same then
-ended_after a b c (Err why) same then = stopped_after a b c why same then
 
 -- calls that raised no count, and then Console
 console_after : (a b c : Outside) → SameCounts a b → OnlyConsole b c → OnlyConsole a c
@@ -38,7 +33,8 @@ rose_on : (a b c : ℕ) → Rose a b → b ≤ c → Rose a c
 rose_on a b c rose kept = let k = rose.kept in let m = rose.more in record { kept = omega arith; more = omega arith }
 
 -- Console's write count, or another role's, didn't fall
-console_kept : (role : Role) (b c : Outside) → OnlyConsole b c → (role ≡ Console) ⊎ (role ≢ Console) → b.write_faults role ≤ c.write_faults role
+console_kept : (role : Role) (b c : Outside) → OnlyConsole b c → (role ≡ Console) ⊎ (role ≢ Console)
+    → b.write_faults role ≤ c.write_faults role
 console_kept role b c then (inl console) = subst (λ r. b.write_faults r ≤ c.write_faults r) (sym console) then.console
 console_kept role b c then (inr other) = let same = then.writes role other in omega arith
 
@@ -50,19 +46,22 @@ caused a b c (stop.ReadFault role) rose then = record {
   writes = λ r other. then.writes r other ∙ rose.other_side r;
 }
 caused a b c (stop.WriteFault role) rose then = record {
-  rose = rose_on (a.write_faults role) (b.write_faults role) (c.write_faults role) rose.rose (console_kept role b c then (same_role role Console));
+  rose = rose_on (a.write_faults role) (b.write_faults role) (c.write_faults role) rose.rose
+      (console_kept role b c then (same_role role Console));
   reads = λ r. then.reads r ∙ rose.other_side r;
   writes = λ r other no_console. then.writes r no_console ∙ rose.other_roles r other;
 }
 caused a b c other same then = console_after a b c same then
 
 -- a fact of a bad line gives another
-pub bad_line_weaker : {T : Type 0} (result : Result T Stop) (P Q : ℕ → LineFault → Type 0) → ((n : ℕ) (kind : LineFault) → P n kind → Q n kind) → OnBadLine result P → OnBadLine result Q
+pub bad_line_weaker : {T : Type 0} (result : Result T Stop) (P Q : ℕ → LineFault → Type 0)
+    → ((n : ℕ) (kind : LineFault) → P n kind → Q n kind) → OnBadLine result P → OnBadLine result Q
 bad_line_weaker (Err (stop.BadLine n kind)) P Q step p = step n kind p
 bad_line_weaker other P Q step p = tt
 
 -- two facts of a bad line give a third
-pub bad_line_both : {T : Type 0} (result : Result T Stop) (P Q R : ℕ → LineFault → Type 0) → ((n : ℕ) (kind : LineFault) → P n kind → Q n kind → R n kind) → OnBadLine result P → OnBadLine result Q → OnBadLine result R
+pub bad_line_both : {T : Type 0} (result : Result T Stop) (P Q R : ℕ → LineFault → Type 0)
+    → ((n : ℕ) (kind : LineFault) → P n kind → Q n kind → R n kind) → OnBadLine result P → OnBadLine result Q → OnBadLine result R
 bad_line_both (Err (stop.BadLine n kind)) P Q R step p q = step n kind p q
 bad_line_both other P Q R step p q = tt
 
@@ -88,7 +87,8 @@ console_until other a b same = let e = same.writes Console in omega arith
 
 -- what was told on Console after a run stopped was told since the run began
 pub told_since : (text : List ℕ) (a b c : Outside) (why : Stop) → Stopped why a b → SameConsole a b → IsTold text b c → IsTold text a c
-told_since text a b c why stopped same (inl all) = inl (subst (λ o. Becomes (λ before after. after ≡ before ++ text) o (c.told Console)) same all)
+told_since text a b c why stopped same (inl all) =
+    inl (subst (λ o. Becomes (λ before after. after ≡ before ++ text) o (c.told Console)) same all)
 told_since text a b c why stopped same (inr part) =
     let kept = console_until why a b stopped in
     let rose = part.0.kept in
@@ -110,5 +110,7 @@ console_not_left (stop.ReadFault role) left = left.0
 console_not_left other left = left
 
 -- what a run that stopped left is left when that was told on Console
-pub left_and_told : (a b c : Outside) (why : Stop) → LeavesFiles (status_of why) a b → SameElsewhere Console b c → LeavesFiles (status_of why) a c
-left_and_told a b c why left told role is = told.told role (λ e. console_not_left why (subst (λ r. IsLeft (status_of why) r) e is)) ∙ left role is
+pub left_and_told : (a b c : Outside) (why : Stop) → LeavesFiles (status_of why) a b → SameElsewhere Console b c
+    → LeavesFiles (status_of why) a c
+left_and_told a b c why left told role is =
+    told.told role (λ e. console_not_left why (subst (λ r. IsLeft (status_of why) r) e is)) ∙ left role is

@@ -1,4 +1,4 @@
--- What a run leaves as it was, by the way in which it ends.
+-- What a run leaves as it was, in each of its steps and by the way in which it ends.
 use Rattle.std.specs.Prelude.{◌≡◌, ◌≢◌}
 use Rattle.bm_host.specs.declared.Role.{Role}
 use Rattle.bm_host.specs.declared.Role.TheVariants.{Image, Disk, Schedule, Report, Out, Console}
@@ -35,3 +35,19 @@ LeavesFiles status old new = (role : Role) → IsLeft status role → new.told r
 pub record IsUnopened (old new : Outside) : Type 0 where
   pub report : new.told Report ≡ old.told Report
   pub out : new.told Out ≡ old.told Out
+
+-- Console holds what it held
+abbrev pub SameConsole : Outside → Outside → Type 0
+SameConsole old new = new.told Console ≡ old.told Console
+
+-- no role holds anything else
+abbrev pub KeepsAllFiles : Outside → Outside → Type 0
+KeepsAllFiles old new = (role : Role) → new.told role ≡ old.told role
+
+-- no role but this one holds anything else
+abbrev pub KeepsFilesBut : Role → Outside → Outside → Type 0
+KeepsFilesBut written old new = (role : Role) → role ≢ written → new.told role ≡ old.told role
+
+-- no role but Report holds anything else
+abbrev pub KeepsFiles : Outside → Outside → Type 0
+KeepsFiles old new = KeepsFilesBut Report old new

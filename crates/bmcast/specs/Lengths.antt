@@ -25,7 +25,8 @@ HasLength role o n = IfTold (o.told role) (λ bytes. length bytes ≡ n)
 
 -- the lengths of image and disk, where both are told
 abbrev pub IfLengths : Outside → (ℕ → ℕ → Type 0) → Type 0
-IfLengths o P = IfTold (o.told Image) (λ image. IfTold (o.told Disk) (λ disk. P (length image) (length disk)))
+IfLengths o P =
+    IfTold (o.told Image) (λ image. IfTold (o.told Disk) (λ disk. P (length image) (length disk)))
 
 -- lengths that a run can stand on: suitable ones, with an image that is empty, since no other is built yet
 pub record CanRun (block image disk : ℕ) : Type 0 where

@@ -1,11 +1,12 @@
 pub mod Machine
+pub mod Chosen
 pub mod Stop
+pub mod Waiting
 pub mod Streams
 pub mod Played
 pub mod Lengths
 pub mod Run
 pub mod Status
 pub mod StatusLine
-pub mod BadLine
 pub mod Kept
 pub mod Owed

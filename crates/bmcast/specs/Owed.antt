@@ -7,16 +7,15 @@ use Rattle.run_words.specs.Options.{Choice, Says}
 use Rattle.schedule_text.specs.declared.Event.{Event}
 use Rattle.schedule_text.specs.Schedule.{IsSchedule}
 use Rattle.schedule_text.specs.BadLine.{FailsAt}
+use Rattle.bmcast.specs.Chosen.{Chosen}
 use Rattle.bmcast.specs.Lengths.{CanRun, IsNotYet, IsUnsuitable}
 use Rattle.bmcast.specs.declared.Status.{Status}
 use Rattle.bmcast.specs.declared.Status.TheVariants as status
 
 -- the words choose a run, image and disk are told, and the block with their lengths is so
-pub record Offers (words : List (List ℕ)) (o : Outside) (P : ℕ → ℕ → ℕ → Type 0) : Type 0 where
-  pub choice : Choice
-  pub says : Says words choice
-  pub lengths : IsSomeAnd (o.told Image) (λ image. IsSomeAnd (o.told Disk)
-      (λ disk. P choice.sizes.block (length image) (length disk)))
+abbrev pub Offers : List (List ℕ) → Outside → (ℕ → ℕ → ℕ → Type 0) → Type 0
+Offers words o P = Chosen words (λ choice. IsSomeAnd (o.told Image)
+    (λ image. IsSomeAnd (o.told Disk) (λ disk. P choice.sizes.block (length image) (length disk))))
 
 -- the answer that is owed: the first refusal of words, lengths and schedule, or else Done; a fault and want of
 -- memory never are (own)
@@ -34,5 +33,5 @@ IsOwed status.NoMemory words o = ⊥
 
 -- where no count rose the answer is the one that is owed, or want of memory
 abbrev pub AnswersWhatIsOwed : Status → List (List ℕ) → Outside → Outside → Type 0
-AnswersWhatIsOwed answer words old new = (owed : Status) → IsOwed owed words old → NoCountRose old new
-    → (answer ≡ owed) ⊎ (answer ≡ status.NoMemory)
+AnswersWhatIsOwed answer words old new = (owed : Status) → IsOwed owed words old
+    → NoCountRose old new → (answer ≡ owed) ⊎ (answer ≡ status.NoMemory)

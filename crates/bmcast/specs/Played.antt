@@ -6,7 +6,9 @@ use Rattle.plain_drive.specs.Physical.{Physical}
 use Rattle.schedule_text.specs.declared.Event.{Event}
 use Rattle.schedule_text.specs.declared.Event.TheVariants as event
 use Rattle.schedule_text.specs.declared.TheConstants.{LAST_LINE}
+use Rattle.schedule_text.specs.declared.LineFault.{LineFault}
 use Rattle.schedule_text.specs.Schedule.{HasNoEnd, HasRead, IsEnded, IsSchedule}
+use Rattle.schedule_text.specs.BadLine.{FailsAt}
 use Rattle.plain_run.specs.Entry.{Entry, events_of, history_text}
 use Rattle.plain_run.specs.Run.{IsDriveRun}
 use Rattle.bmcast.specs.declared.play.Progress.{Progress}
@@ -15,17 +17,18 @@ use Rattle.bmcast.specs.declared.streams.Streams.{Streams}
 use Rattle.bmcast.specs.declared.streams.Fetched.TheVariants as fetched
 use Rattle.bmcast.specs.Streams.{unread, Fetches, Said}
 
--- these entries were done and reported, and led from the start to now; `end` isn't among them
+-- these entries were done and reported, and led from the start to now
 pub record IsPlayed (start : Physical) (s : Streams) (o : Outside) (now : Physical)
     (entries : List Entry) : Type 0 where
   pub run : IsDriveRun start entries now
   pub said : Said s o (history_text entries)
-  pub unended : HasNoEnd (events_of entries)
 
--- the events of the lines before this number were read, done and reported
-pub record HasPlayed (start : Physical) (s : Streams) (o : Outside) (now : Physical) (number : ℕ) : Type 0 where
+-- the events of the lines before this number were read, done and reported; `end` isn't among them
+pub record HasPlayed (start : Physical) (s : Streams) (o : Outside) (now : Physical)
+    (number : ℕ) : Type 0 where
   pub entries : List Entry
   pub played : IsPlayed start s o now entries
+  pub unended : HasNoEnd (events_of entries)
   pub read : IfTold (o.told Schedule) (λ text. HasRead text (unread s o text) (events_of entries))
   pub next : length entries + 1 ≡ number
 
@@ -34,12 +37,14 @@ abbrev pub IsNextLine : List ℕ → List ℕ → List Event → List ℕ → Ty
 IsNextLine text left events line = (old : List ℕ) × HasRead text old events
     × (Fetches fetched.Line line old left ⊎ Fetches fetched.LastLine line old left)
 
--- the events of the lines before this number were read and done, and its line was taken
+-- the events of the lines before this number were read and done, and its line was taken; `end` isn't among them
 pub record HasTaken (start : Physical) (s : Streams) (o : Outside) (now : Physical) (line : List ℕ)
     (number : ℕ) : Type 0 where
   pub entries : List Entry
   pub played : IsPlayed start s o now entries
-  pub taken : IfTold (o.told Schedule) (λ text. IsNextLine text (unread s o text) (events_of entries) line)
+  pub unended : HasNoEnd (events_of entries)
+  pub taken : IfTold (o.told Schedule)
+      (λ text. IsNextLine text (unread s o text) (events_of entries) line)
   pub next : length entries + 1 ≡ number
 
 -- a line of this number may say this event, and then the schedule goes on, or this is its `end`
@@ -51,8 +56,7 @@ Leads progress.Ended one number = one ≡ event.End
 pub record HasDoneEnd (start : Physical) (s : Streams) (o : Outside) (now : Physical)
     (number : ℕ) : Type 0 where
   pub entries : List Entry
-  pub run : IsDriveRun start entries now
-  pub said : Said s o (history_text entries)
+  pub played : IsPlayed start s o now entries
   pub read : IfTold (o.told Schedule) (λ text. HasRead text (unread s o text) (events_of entries))
   pub ended : IsEnded (events_of entries)
   pub length : length entries ≡ number
@@ -63,12 +67,19 @@ HasDone progress.More start s o now number = HasPlayed start s o now (number + 1
 HasDone progress.Ended start s o now number = HasDoneEnd start s o now number
 
 -- a whole schedule was read and done, and `end` is its line of this number
-pub record HasEnded (start : Physical) (s : Streams) (o : Outside) (now : Physical) (number : ℕ) : Type 0 where
+pub record HasEnded (start : Physical) (s : Streams) (o : Outside) (now : Physical)
+    (number : ℕ) : Type 0 where
   pub entries : List Entry
-  pub run : IsDriveRun start entries now
+  pub played : IsPlayed start s o now entries
   pub schedule : IfTold (o.told Schedule) (λ text. IsSchedule text (events_of entries))
-  pub said : Said s o (history_text entries)
   pub length : length entries ≡ number
+
+-- the events before the first bad line were read, done and reported
+pub record HasFailed (start : Physical) (s : Streams) (o : Outside) (now : Physical) (number : ℕ)
+    (kind : LineFault) : Type 0 where
+  pub entries : List Entry
+  pub played : IsPlayed start s o now entries
+  pub fails : IfTold (o.told Schedule) (λ text. FailsAt text (events_of entries) number kind)
 
 -- after a line of this number the schedule goes on, or it has ended
 abbrev pub Progresses : Progress → Physical → Streams → Outside → Physical → ℕ → Type 0

@@ -2,7 +2,6 @@
 use Rattle.std.specs.Prelude.{ℕ, ◌≡◌, ◌*◌, ◌/◌, false, List, [], length, replicate, slice_index_or}
 use Rattle.bm_host.specs.declared.Role.TheVariants.{Disk, Schedule, Report, Out}
 use Rattle.bm_host.specs.Outside.{Outside, IfTold}
-use Rattle.run_words.specs.Options.{Choice, Says}
 use Rattle.plain_drive.specs.Plain.{sectors_in}
 use Rattle.plain_drive.specs.Cut.{IsOutcome, drive_at_power_on}
 use Rattle.plain_drive.specs.Physical.{Physical, StandsFor, fresh, physical_at_power_on}
@@ -12,6 +11,7 @@ use Rattle.schedule_text.specs.BadLine.{FailsAt}
 use Rattle.plain_run.specs.Entry.{Entry, events_of, history_text, report_text}
 use Rattle.plain_run.specs.Run.{Drives, IsDriveRun, IsDirectRun, drives}
 use Rattle.plain_run.specs.Written.{is_named}
+use Rattle.bmcast.specs.Chosen.{Chosen}
 
 -- no event is read yet: nothing of the schedule is taken, and report and out are empty
 pub record IsReady (o : Outside) : Type 0 where
@@ -27,7 +27,8 @@ pub record IsReported (old new : Outside) (start now : Physical) : Type 0 where
   pub report : IfTold (new.told Report) (λ text. text ≡ report_text entries)
 
 -- the schedule was played up to its first bad line, and the report is the text of the events before it
-pub record IsStopped (old new : Outside) (start now : Physical) (number : ℕ) (kind : LineFault) : Type 0 where
+pub record IsStopped (old new : Outside) (start now : Physical) (number : ℕ)
+    (kind : LineFault) : Type 0 where
   pub entries : List Entry
   pub run : IsDriveRun start entries now
   pub schedule : IfTold (old.told Schedule) (λ text. FailsAt text (events_of entries) number kind)
@@ -39,60 +40,52 @@ sectors_of_disk disk = sectors_in (length disk / 512) disk
 
 -- a drive at power-on over these sectors, all durable, with a guest's memory of so many zeros
 abbrev pub drive_over : ℕ → List (List ℕ) → Physical
-drive_over memory sectors = physical_at_power_on (fresh 64 sectors) (length sectors) (replicate memory 0)
+drive_over memory sectors =
+    physical_at_power_on (fresh 64 sectors) (length sectors) (replicate memory 0)
 
 -- the same beside the plain drive for which it stands
 abbrev pub drives_over : ℕ → List (List ℕ) → Drives
-drives_over memory sectors =
-    drives (drive_at_power_on sectors (length sectors) (replicate memory 0)) (drive_over memory sectors)
+drives_over memory sectors = drives
+    (drive_at_power_on sectors (length sectors) (replicate memory 0)) (drive_over memory sectors)
 
--- the run is done, with a guest's memory of so many bytes, from the outside before it to that after it:
-pub record IsDone (memory : ℕ) (old new : Outside) : Type 0 where
-  -- there are the disk's sectors, a history with one entry for each event, and at its end a plain drive and the
+-- what was run, with a guest's memory of so many bytes, over the disk of this outside:
+pub record WasRun (memory : ℕ) (old : Outside) : Type 0 where
+  -- there are the disk's sectors, a history of the events that were done, and at its end a plain drive and the
   -- physical one, which stands for it
   pub sectors : List (List ℕ)
   pub entries : List Entry
   pub end : Drives
   pub stands : StandsFor end.physical end.plain
   pub read : IfTold (old.told Disk) (λ disk. sectors ≡ sectors_of_disk disk)
-  -- the schedule was read to its line `end` and the end of input, and these are its events
-  pub schedule : IfTold (old.told Schedule) (λ text. IsSchedule text (events_of entries))
-  -- the report is the text of the history
-  pub report : IfTold (new.told Report) (λ text. text ≡ report_text entries)
   -- both drives began with the sectors, and event by event the answers and plan lines are those of the
   -- plain drive, the physical one makes exactly the event's access, step, destage or cut and takes the
   -- commands of the `c` lines, and after a cut the plain drive goes on with the physical one's
   -- durable sectors
   pub run : IsDirectRun (drives_over memory sectors) entries end
+
+-- the run is done, from the outside before it to that after it:
+pub record IsDone (memory : ℕ) (old new : Outside) : Type 0 where
+  pub was : WasRun memory old
+  -- the schedule was read to its line `end` and the end of input, and these are its events
+  pub schedule : IfTold (old.told Schedule) (λ text. IsSchedule text (events_of was.entries))
+  -- the report is the text of the history
+  pub report : IfTold (new.told Report) (λ text. text ≡ report_text was.entries)
   -- out has the physical drive's durable sectors, which are what a power cut may leave of the plain one
-  pub out : IfTold (new.told Out) (λ out. sectors_of_disk out ≡ end.physical.kept.durable)
-  pub whole : IfTold (new.told Out) (λ out. length out ≡ 512 * length sectors)
-  pub outcome : IsOutcome end.plain.device.cells end.physical.kept.durable
+  pub out : IfTold (new.told Out) (λ out. sectors_of_disk out ≡ was.end.physical.kept.durable)
+  pub whole : IfTold (new.told Out) (λ out. length out ≡ 512 * length was.sectors)
+  pub outcome : IsOutcome was.end.plain.device.cells was.end.physical.kept.durable
   -- a sector that no `c` line of a write names is the disk's
-  pub unnamed : (s : ℕ) → is_named s entries ≡ false
-      → slice_index_or end.physical.kept.durable s [] ≡ slice_index_or sectors s []
+  pub unnamed : (s : ℕ) → is_named s was.entries ≡ false
+      → slice_index_or was.end.physical.kept.durable s [] ≡ slice_index_or was.sectors s []
 
--- the run ended at a bad line: its number and its kind are those of the schedule's first, and
+-- the run ended at a bad line, whose number and kind are those of the schedule's first:
 pub record IsBadLine (memory : ℕ) (old new : Outside) (number : ℕ) (kind : LineFault) : Type 0 where
-  -- there are the disk's sectors, a history of the events before it, and at its end a plain drive and
-  -- the physical one, which stands for it
-  pub sectors : List (List ℕ)
-  pub entries : List Entry
-  pub end : Drives
-  pub stands : StandsFor end.physical end.plain
-  pub read : IfTold (old.told Disk) (λ disk. sectors ≡ sectors_of_disk disk)
+  pub was : WasRun memory old
   -- the lines before it are those of these events, and it is the first that isn't one, for this fault
-  pub schedule : IfTold (old.told Schedule) (λ text. FailsAt text (events_of entries) number kind)
+  pub schedule : IfTold (old.told Schedule)
+      (λ text. FailsAt text (events_of was.entries) number kind)
   -- the report is the text of the history, without an end
-  pub report : IfTold (new.told Report) (λ text. text ≡ history_text entries)
-  -- all these events were done
-  pub run : IsDirectRun (drives_over memory sectors) entries end
-
--- the words choose a run, of which this holds
-pub record Chosen (words : List (List ℕ)) (P : Choice → Type 0) : Type 0 where
-  pub choice : Choice
-  pub says : Says words choice
-  pub holds : P choice
+  pub report : IfTold (new.told Report) (λ text. text ≡ history_text was.entries)
 
 -- the run that the words choose is done
 abbrev pub RunIsDone : List (List ℕ) → Outside → Outside → Type 0
@@ -100,4 +93,5 @@ RunIsDone words old new = Chosen words (λ choice. IsDone choice.sizes.memory ol
 
 -- the run that the words choose ended at a bad line
 abbrev pub RunIsBad : List (List ℕ) → Outside → Outside → ℕ → LineFault → Type 0
-RunIsBad words old new number kind = Chosen words (λ choice. IsBadLine choice.sizes.memory old new number kind)
+RunIsBad words old new number kind =
+    Chosen words (λ choice. IsBadLine choice.sizes.memory old new number kind)

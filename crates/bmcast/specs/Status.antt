@@ -2,6 +2,7 @@
 use Rattle.std.specs.Prelude.{ℕ, ◌≡◌, ◌≢◌, ◌≤◌, ◌++◌, ◌⊎◌, List, Result, Ok, Err}
 use Rattle.run_words.specs.Options.{Choice, Says}
 use Rattle.schedule_text.specs.declared.LineFault.{LineFault}
+use Rattle.bmcast.specs.Chosen.{Chosen}
 use Rattle.bmcast.specs.Lengths.{IfLengths, CanRun, IsNotYet, IsUnsuitable}
 use Rattle.bm_host.specs.declared.Role.{Role}
 use Rattle.bm_host.specs.declared.Role.TheVariants.{Console}
@@ -19,7 +20,8 @@ pub record OnlyConsole (old new : Outside) : Type 0 where
 
 -- this text was appended to Console; or a prefix of it, and the count of Console's writes rose
 abbrev pub IsTold : List ℕ → Outside → Outside → Type 0
-IsTold text old new = Becomes (λ before after. after ≡ before ++ text) (old.told Console) (new.told Console)
+IsTold text old new =
+    Becomes (λ before after. after ≡ before ++ text) (old.told Console) (new.told Console)
     ⊎ (Rose (old.write_faults Console) (new.write_faults Console)
     × Becomes (AppendsPrefix text) (old.told Console) (new.told Console))
 
@@ -33,7 +35,8 @@ pub record ReadFailed (failed : Role) (old new : Outside) : Type 0 where
 pub record WriteFailed (failed : Role) (old new : Outside) : Type 0 where
   pub rose : Rose (old.write_faults failed) (new.write_faults failed)
   pub reads : (role : Role) → new.read_faults role ≡ old.read_faults role
-  pub writes : (role : Role) → role ≢ failed → role ≢ Console → new.write_faults role ≡ old.write_faults role
+  pub writes : (role : Role) → role ≢ failed → role ≢ Console
+      → new.write_faults role ≡ old.write_faults role
 
 -- what a status says of the counts of faults
 abbrev pub HasItsCause : Status → Outside → Outside → Type 0
@@ -79,10 +82,8 @@ status_after (Ok x) = status.Done
 status_after (Err why) = status_of why
 
 -- the words choose a run, and its block with the lengths of image and disk are so
-pub record Chooses (words : List (List ℕ)) (o : Outside) (P : ℕ → ℕ → ℕ → Type 0) : Type 0 where
-  pub choice : Choice
-  pub says : Says words choice
-  pub lengths : IfLengths o (P choice.sizes.block)
+abbrev pub Chooses : List (List ℕ) → Outside → (ℕ → ℕ → ℕ → Type 0) → Type 0
+Chooses words o P = Chosen words (λ choice. IfLengths o (P choice.sizes.block))
 
 -- why a status comes, of the words and of the lengths, in the order in which these are looked at
 abbrev pub HasItsReason : Status → List (List ℕ) → Outside → Type 0
@@ -94,10 +95,6 @@ HasItsReason (status.BadLine number fault) words o = Chooses words o CanRun
 HasItsReason (status.WriteFault role) words o = Chooses words o CanRun
 HasItsReason status.NoMemory words o = Chooses words o CanRun
 HasItsReason (status.ReadFault role) words o = Chooses words o (λ block image disk. Unit {0})
-
--- Console holds what it held
-abbrev pub SameConsole : Outside → Outside → Type 0
-SameConsole old new = new.told Console ≡ old.told Console
 
 -- a fact for every status but Done
 abbrev pub UnlessDone : Status → Type 0 → Type 0

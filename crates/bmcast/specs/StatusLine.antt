@@ -41,7 +41,8 @@ abbrev pub status_text : Status → List ℕ
 status_text status.Done = []
 status_text status.Usage = codes "the words are not a command line of this program"
 status_text (status.Unsuitable reason) = codes "unsuitable: " ++ why_name reason
-status_text (status.BadLine number kind) = codes "line " ++ decimal number ++ codes ": " ++ fault_name kind
+status_text (status.BadLine number kind) =
+    codes "line " ++ decimal number ++ codes ": " ++ fault_name kind
 status_text (status.ReadFault failed) = codes "cannot read " ++ role_name failed
 status_text (status.WriteFault failed) = codes "cannot write " ++ role_name failed
 status_text status.NoMemory = codes "no memory"

@@ -1,8 +1,8 @@
 -- The schedule as it is read in blocks, and the report as it is written in blocks.
 use Rattle.std.specs.Prelude.{ℕ, ◌≡◌, ◌≢◌, ◌≤◌, ◌++◌, List, [], ◌∷◌, length, take, drop, Option, Some, None}
-use Rattle.bm_host.specs.declared.Role.TheVariants.{Schedule, Report, Out}
-use Rattle.bm_host.specs.declared.Role.{Role}
-use Rattle.bm_host.specs.Outside.{Outside, IfTold}
+use Rattle.bm_host.specs.declared.Role.TheVariants.{Schedule, Report}
+use Rattle.bm_host.specs.Outside.{Outside}
+use Rattle.bmcast.specs.Waiting.{Waits}
 use Rattle.schedule_text.specs.declared.TheConstants.{LINE_BYTES}
 use Rattle.schedule_text.specs.Schedule.{IsOneLine}
 use Rattle.bmcast.specs.declared.streams.Streams.{Streams}
@@ -15,7 +15,7 @@ unread s outside text = drop s.at (take s.end s.block) ++ drop (outside.given Sc
 
 -- the report's lines so far, written or waiting, are this text
 abbrev pub Said : Streams → Outside → List ℕ → Type 0
-Said s outside text = IfTold (outside.told Report) (λ written. written ++ s.pending.items ≡ text)
+Said s outside text = Waits Report s.pending.items outside text
 
 -- the report's lines so far stay the same text
 abbrev pub KeepsSaid : Streams → Streams → Outside → Outside → Type 0
@@ -29,21 +29,9 @@ Appends from to old new lines = (text : List ℕ) → Said from old text → Sai
 abbrev pub KeepsUnread : Streams → Streams → Outside → Outside → Type 0
 KeepsUnread from to old new = (text : List ℕ) → unread to new text ≡ unread from old text
 
--- no role but this one holds anything else
-abbrev pub KeepsFilesBut : Role → Outside → Outside → Type 0
-KeepsFilesBut written old new = (role : Role) → role ≢ written → new.told role ≡ old.told role
-
--- no role but Report holds anything else
-abbrev pub KeepsFiles : Outside → Outside → Type 0
-KeepsFiles old new = KeepsFilesBut Report old new
-
--- what Out holds and the bytes that wait for it are this text
-abbrev pub Waits : List ℕ → Outside → List ℕ → Type 0
-Waits waiting outside text = IfTold (outside.told Out) (λ written. written ++ waiting ≡ text)
-
--- that text stays the same
-abbrev pub KeepsWaiting : List ℕ → List ℕ → Outside → Outside → Type 0
-KeepsWaiting waiting left old new = (text : List ℕ) → Waits waiting old text → Waits left new text
+-- these bytes are appended to the report, and nothing of the schedule is taken
+abbrev pub Reports : Streams → Streams → Outside → Outside → List ℕ → Type 0
+Reports from to old new lines = Appends from to old new lines × KeepsUnread from to old new
 
 -- the next byte was taken, where there is one
 abbrev pub Takes : Option ℕ → List ℕ → List ℕ → Type 0
@@ -62,7 +50,3 @@ Fetches fetched.TooLong line old new = IsOneLine line × (LINE_BYTES ≤ length 
 abbrev pub fetched_at_end : List ℕ → Fetched
 fetched_at_end [] = fetched.Nothing
 fetched_at_end (byte ∷ line) = fetched.LastLine
-
--- no role holds anything else
-abbrev pub KeepsAllFiles : Outside → Outside → Type 0
-KeepsAllFiles old new = (role : Role) → new.told role ≡ old.told role

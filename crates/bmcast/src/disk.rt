@@ -9,10 +9,12 @@ ghost use Rattle.bmcast.specs.Lengths.{HasLength};
 ghost use Rattle.bmcast.specs.Machine.{list_of, physical};
 ghost use Rattle.bmcast.specs.Run.{drive_over, sectors_of_disk};
 ghost use Rattle.bmcast.specs.Stop.{Ended, IsFault, IsLateFault};
-ghost use Rattle.bmcast.specs.Streams.{Waits, KeepsFilesBut, KeepsWaiting};
+ghost use Rattle.bmcast.specs.Kept.{KeepsFilesBut};
+ghost use Rattle.bmcast.specs.Waiting.{Waits};
 
 use crate::machine::Machine;
 use crate::stop::Stop;
+use crate::waiting::{make_room, write_waiting};
 use arrayvec::ArrayVec;
 use bm_dma::{GuestMemory, MOST_BYTES};
 use bm_host::{Host, Role};
@@ -109,7 +111,7 @@ pub fn write_out<H: Host>(host: &mut H, machine: &mut Machine, sectors: u64) -> 
     for sector in 0..sectors {
         write_sector(host, machine, sector, &mut piece)?;
     }
-    write_piece(host, &mut piece)?;
+    write_waiting(host, Role::Out, &mut piece)?;
     Ok(())
 }
 
@@ -125,45 +127,15 @@ fn write_sector<H: Host>(
     ensures counts { Ended result (H.outside host.old) (H.outside host.new) }
     ensures files { KeepsFilesBut Out (H.outside host.old) (H.outside host.new) }
     ensures machine { physical machine.new ≡ physical machine.old }
-    ensures waits { OnOk result ((text : List ℕ) → Waits piece.old.items (H.outside host.old) text
-        → Waits piece.new.items (H.outside host.new)
+    ensures waits { OnOk result ((text : List ℕ)
+        → Waits Out piece.old.items (H.outside host.old) text
+        → Waits Out piece.new.items (H.outside host.new)
         (text ++ slice_index_or (physical machine.old).kept.durable sector [])) }
 {
     let mut value = [0; 512];
     // A store in memory has no fault.
     machine.drive.durable(sector, &mut value).unwrap();
-    make_room(host, piece)?;
+    make_room(host, Role::Out, piece, 512)?;
     piece.try_extend_from_slice(&value).unwrap();
-    Ok(())
-}
-
-// Writes what waits, where a sector more might not fit beside it.
-fn make_room<H: Host>(host: &mut H, piece: &mut Piece) -> Result<(), Stop>
-    ensures fault { IfErr result IsFault }
-    ensures counts { Ended result (H.outside host.old) (H.outside host.new) }
-    ensures files { KeepsFilesBut Out (H.outside host.old) (H.outside host.new) }
-    ensures room { OnOk result (length piece.new.items + 512 ≤ PIECE) }
-    ensures waits { OnOk result (KeepsWaiting piece.old.items piece.new.items
-        (H.outside host.old) (H.outside host.new)) }
-{
-    if piece.len() + 512 <= PIECE {
-        return Ok(());
-    }
-    write_piece(host, piece)
-}
-
-// Writes what waits.
-fn write_piece<H: Host>(host: &mut H, piece: &mut Piece) -> Result<(), Stop>
-    ensures fault { IfErr result IsFault }
-    ensures counts { Ended result (H.outside host.old) (H.outside host.new) }
-    ensures files { KeepsFilesBut Out (H.outside host.old) (H.outside host.new) }
-    ensures empty { OnOk result (piece.new.items ≡ []) }
-    ensures waits { OnOk result (KeepsWaiting piece.old.items piece.new.items
-        (H.outside host.old) (H.outside host.new)) }
-{
-    let Ok(()) = host.write_next(Role::Out, piece.as_slice()) else {
-        return Err(Stop::WriteFault(Role::Out));
-    };
-    piece.clear();
     Ok(())
 }

@@ -1,6 +1,6 @@
 //! One event of the schedule, on a drive without a monitor.
 
-ghost use Rattle.std.specs.Prelude.{◌≡◌, ◌≤◌, ◌<◌, ◌+◌, ◌++◌, ◌∷◌, ℕ, List, [], length};
+ghost use Rattle.std.specs.Prelude.{◌≡◌, ◌≤◌, ◌+◌, ◌++◌, ◌∷◌, [], length};
 ghost use Rattle.ata_taskfile.specs.Order.{has_range};
 ghost use Rattle.plain_drive.specs.Plain.{words_of};
 ghost use Rattle.plain_drive.specs.Physical.{seen};

@@ -1,14 +1,13 @@
 //! The lengths of image and disk, and whether a run can stand on them.
 
-ghost use Rattle.std.specs.Prelude.{◌≡◌, ◌%◌, ◌/◌, ◌≤◌, ◌<◌, ℕ, List, length, IfOk, IfErr, OnOk};
-ghost use Rattle.bm_host.specs.Outside.{Outside, Counted, IfTold, Reads, begin_side, begun};
+ghost use Rattle.std.specs.Prelude.{◌≡◌, ◌%◌, ◌/◌, ◌<◌, ℕ, List, length, IfOk, IfErr, OnOk};
+ghost use Rattle.bm_host.specs.Outside.{Outside, Counted, Reads, begin_side, begun};
 ghost use Rattle.fill_bitmap.specs.Area.{IsBlock};
 ghost use Rattle.bm_host.specs.declared.Role.TheVariants.{Image, Disk};
 ghost use Rattle.bmcast.specs.Lengths.{CanRun, HasLength, IfLengths, StopsFor, why_of};
-ghost use Rattle.bmcast.specs.Kept.{IsUnopened, LeavesFiles};
-ghost use Rattle.bmcast.specs.Status.{SameConsole, status_after};
+ghost use Rattle.bmcast.specs.Kept.{IsUnopened, KeepsAllFiles, KeepsFilesBut, LeavesFiles, SameConsole};
+ghost use Rattle.bmcast.specs.Status.{status_after};
 ghost use Rattle.bmcast.specs.Stop.{Ended, IsEarly};
-ghost use Rattle.bmcast.specs.Streams.{KeepsAllFiles, KeepsFilesBut};
 
 use crate::Why;
 use crate::stop::Stop;

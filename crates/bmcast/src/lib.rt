@@ -16,6 +16,7 @@ mod play;
 mod run;
 mod stop;
 mod streams;
+mod waiting;
 
 ghost use Rattle.bmcast.specs.Run.{IsReady, RunIsBad, RunIsDone};
 ghost use Rattle.bmcast.specs.Kept.{IsUnopened, LeavesFiles};

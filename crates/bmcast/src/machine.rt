@@ -1,7 +1,7 @@
 //! The drive and the guest's memory, as a run without a monitor has them.
 
 ghost use Rattle.std.specs.Prelude.{◌≤◌, length};
-ghost use Rattle.ata_taskfile.specs.Device.{after_read8, after_read_word, after_write8, after_write_pointer, after_write_word, byte_read, line_read, pointer_read, word_read};
+ghost use Rattle.ata_taskfile.specs.Device.{after_read8, after_read_word, after_write8, after_write_pointer, after_write_word, byte_read, word_read};
 
 use ata_taskfile::{Ports, Reg};
 use bm_dma::GuestMemory;

@@ -1,6 +1,6 @@
 //! The events of the schedule, read, done and reported one line at a time.
 
-ghost use Rattle.std.specs.Prelude.{◌≡◌, ◌≢◌, ◌≤◌, ◌+◌, ◌++◌, ℕ, List, [], IfErr, IfOk, OnOk};
+ghost use Rattle.std.specs.Prelude.{◌≡◌, ◌≢◌, ◌≤◌, ◌+◌, ℕ, List, [], IfErr, IfOk, OnOk};
 ghost use Rattle.bm_host.specs.Outside.{Outside, IfTold};
 ghost use Rattle.bm_host.specs.declared.Role.TheVariants.{Schedule};
 ghost use Rattle.plain_drive.specs.Physical.{Physical};
@@ -9,10 +9,10 @@ ghost use Rattle.schedule_text.specs.Line.{Says, IsInRange};
 ghost use Rattle.schedule_text.specs.BadLine.{LineFails};
 ghost use Rattle.plain_run.specs.Entry.{entry_of, items_text};
 ghost use Rattle.plain_run.specs.Run.{DriveEvent};
-ghost use Rattle.bmcast.specs.BadLine.{HasFailed};
 ghost use Rattle.bmcast.specs.Stop.{Ended, IsFault, IsPlayStop, OnBadLine, UnlessFault};
-ghost use Rattle.bmcast.specs.Streams.{unread, Appends, KeepsFiles, KeepsSaid, KeepsUnread};
-ghost use Rattle.bmcast.specs.Played.{HasPlayed, HasTaken, HasDone, HasEnded, Leads, Progresses};
+ghost use Rattle.bmcast.specs.Kept.{KeepsFiles};
+ghost use Rattle.bmcast.specs.Streams.{unread, KeepsSaid, Reports};
+ghost use Rattle.bmcast.specs.Played.{HasPlayed, HasTaken, HasDone, HasEnded, Leads, Progresses, HasFailed};
 
 use crate::events::apply;
 use crate::machine::Machine;
@@ -188,11 +188,9 @@ fn do_event<H: Host>(
     ensures files { KeepsFiles (H.outside host.old) (H.outside host.new) }
     ensures event { DriveEvent (physical machine.old)
         (entry_of event.now out.new.items.items out.new.bytes.items) (physical machine.new) }
-    ensures said { OnOk result
-        (Appends streams.old streams.new (H.outside host.old) (H.outside host.new)
+    ensures reported { OnOk result
+        (Reports streams.old streams.new (H.outside host.old) (H.outside host.new)
         (items_text number out.new.items.items out.new.bytes.items)) }
-    ensures unread { OnOk result
-        (KeepsUnread streams.old streams.new (H.outside host.old) (H.outside host.new)) }
 {
     out.clear();
     apply(machine, event, out);

@@ -1,18 +1,15 @@
 //! A whole run, step by step: words, lengths, files, disk, events, report and out.
 
-ghost use Rattle.std.specs.Prelude.{◌≡◌, ◌/◌, ◌*◌, ◌%◌, ◌≤◌, ◌⊎◌, ℕ, List, [], length, IfErr, OnOk, IfOk};
-ghost use Rattle.bm_host.specs.Outside.{IfTold};
+ghost use Rattle.std.specs.Prelude.{◌≡◌, ◌/◌, ◌%◌, ◌≤◌, ◌⊎◌, [], IfErr, OnOk, IfOk};
 ghost use Rattle.bm_host.specs.declared.Role.TheVariants.{Disk, Out};
 ghost use Rattle.plain_drive.specs.Physical.{Physical};
 ghost use Rattle.bmcast.specs.Machine.{physical};
 ghost use Rattle.run_words.specs.Pairs.{texts};
-ghost use Rattle.bmcast.specs.Kept.{IsUnopened, LeavesFiles};
+ghost use Rattle.bmcast.specs.Kept.{IsUnopened, KeepsFiles, LeavesFiles, SameConsole};
 ghost use Rattle.bmcast.specs.Lengths.{CanRun, HasLength};
 ghost use Rattle.bmcast.specs.Stop.{Ended, IsFault, IsLate, IsPlayStop, OnBadLine};
-ghost use Rattle.bmcast.specs.BadLine.{HasFailed};
-ghost use Rattle.bmcast.specs.Status.{Chooses, HasItsReason, OnNoMemory, SameConsole, status_after};
-ghost use Rattle.bmcast.specs.Streams.{KeepsFiles};
-ghost use Rattle.bmcast.specs.Played.{HasPlayed, HasEnded};
+ghost use Rattle.bmcast.specs.Status.{Chooses, HasItsReason, OnNoMemory, status_after};
+ghost use Rattle.bmcast.specs.Played.{HasPlayed, HasEnded, HasFailed};
 ghost use Rattle.bmcast.specs.Run.{IsReady, IsReported, IsStopped, IsDone, IsBadLine, RunIsBad, RunIsDone};
 
 use crate::disk::{load, write_out};

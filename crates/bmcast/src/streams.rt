@@ -1,8 +1,9 @@
 //! The schedule as it is read in blocks, and the report as it is written in blocks.
 
-ghost use Rattle.std.specs.Prelude.{◌≡◌, ◌≢◌, ◌≤◌, ◌<◌, ◌+◌, ◌++◌, ℕ, List, [], ◌∷◌, length, IfErr, IfOk, OnOk, MatchOption};
+ghost use Rattle.std.specs.Prelude.{◌≡◌, ◌≤◌, ◌<◌, ◌+◌, [], length, IfErr, IfOk, OnOk};
 
 use crate::stop::Stop;
+use crate::waiting::{make_room, write_waiting};
 use arrayvec::ArrayVec;
 use bm_host::{Host, Role};
 use schedule_text::{Emitted, Item, LINE_BYTES, write_end, write_item};
@@ -40,7 +41,8 @@ impl Streams {
     ghost use Rattle.schedule_text.specs.Report.{end_text, line_text};
     ghost use Rattle.plain_run.specs.Entry.{items_text};
     ghost use Rattle.bmcast.specs.Stop.{Ended, IsFault};
-    ghost use Rattle.bmcast.specs.Streams.{unread, Appends, Takes, Fetches, KeepsFiles, KeepsSaid, KeepsUnread};
+    ghost use Rattle.bmcast.specs.Kept.{KeepsFiles};
+    ghost use Rattle.bmcast.specs.Streams.{unread, Takes, Fetches, KeepsSaid, Reports};
 
     /// Nothing read and nothing to write.
     pub fn new() -> Streams
@@ -68,14 +70,7 @@ impl Streams {
         ensures schedule { (H.outside host.new).given Schedule
             ≡ (H.outside host.old).given Schedule }
     {
-        if self.pending.is_empty() {
-            return Ok(());
-        }
-        let Ok(()) = host.write_next(Role::Report, self.pending.as_slice()) else {
-            return Err(Stop::WriteFault(Role::Report));
-        };
-        self.pending.clear();
-        Ok(())
+        write_waiting(host, Role::Report, &mut self.pending)
     }
 
     /// Appends the report's lines for an event whose line has this number.
@@ -83,11 +78,9 @@ impl Streams {
         ensures counts { Ended result (H.outside host.old) (H.outside host.new) }
         ensures fault { IfErr result IsFault }
         ensures files { KeepsFiles (H.outside host.old) (H.outside host.new) }
-        ensures said { OnOk result
-            (Appends self.old self.new (H.outside host.old) (H.outside host.new)
+        ensures reported { OnOk result
+            (Reports self.old self.new (H.outside host.old) (H.outside host.new)
             (items_text number out.now.items.items out.now.bytes.items)) }
-        ensures unread { OnOk result
-            (KeepsUnread self.old self.new (H.outside host.old) (H.outside host.new)) }
     {
         for item in out.items.as_slice() {
             self.report_item(host, number, item, out.bytes.as_slice())?;
@@ -106,11 +99,9 @@ impl Streams {
         ensures counts { Ended result (H.outside host.old) (H.outside host.new) }
         ensures fault { IfErr result IsFault }
         ensures files { KeepsFiles (H.outside host.old) (H.outside host.new) }
-        ensures said { OnOk result
-            (Appends self.old self.new (H.outside host.old) (H.outside host.new)
+        ensures reported { OnOk result
+            (Reports self.old self.new (H.outside host.old) (H.outside host.new)
             (line_text number item.now bytes.now)) }
-        ensures unread { OnOk result
-            (KeepsUnread self.old self.new (H.outside host.old) (H.outside host.new)) }
     {
         write_item(number, item, bytes, &mut self.line);
         self.push_line(host)
@@ -121,11 +112,9 @@ impl Streams {
         ensures counts { Ended result (H.outside host.old) (H.outside host.new) }
         ensures fault { IfErr result IsFault }
         ensures files { KeepsFiles (H.outside host.old) (H.outside host.new) }
-        ensures said { OnOk result
-            (Appends self.old self.new (H.outside host.old) (H.outside host.new)
+        ensures reported { OnOk result
+            (Reports self.old self.new (H.outside host.old) (H.outside host.new)
             (end_text number)) }
-        ensures unread { OnOk result
-            (KeepsUnread self.old self.new (H.outside host.old) (H.outside host.new)) }
     {
         write_end(number, &mut self.line);
         self.push_line(host)
@@ -136,35 +125,15 @@ impl Streams {
         ensures counts { Ended result (H.outside host.old) (H.outside host.new) }
         ensures fault { IfErr result IsFault }
         ensures files { KeepsFiles (H.outside host.old) (H.outside host.new) }
-        ensures said { OnOk result
-            (Appends self.old self.new (H.outside host.old) (H.outside host.new)
+        ensures reported { OnOk result
+            (Reports self.old self.new (H.outside host.old) (H.outside host.new)
             (self.old.line.items)) }
-        ensures unread { OnOk result
-            (KeepsUnread self.old self.new (H.outside host.old) (H.outside host.new)) }
     {
-        self.make_room(host)?;
+        make_room(host, Role::Report, &mut self.pending, REPORT_LINE)?;
         self.pending
             .try_extend_from_slice(self.line.as_slice())
             .unwrap();
         Ok(())
-    }
-
-    // Writes the lines that wait, where another might not fit beside them.
-    fn make_room<H: Host>(&mut self, host: &mut H) -> Result<(), Stop>
-        ensures counts { Ended result (H.outside host.old) (H.outside host.new) }
-        ensures fault { IfErr result IsFault }
-        ensures files { KeepsFiles (H.outside host.old) (H.outside host.new) }
-        ensures said { OnOk result
-            (KeepsSaid self.old self.new (H.outside host.old) (H.outside host.new)) }
-        ensures room { OnOk result (length self.new.pending.items + 4096 ≤ 16384) }
-        ensures line { self.new.line ≡ self.old.line }
-        ensures unread { OnOk result
-            (KeepsUnread self.old self.new (H.outside host.old) (H.outside host.new)) }
-    {
-        if self.pending.len() + REPORT_LINE <= PENDING {
-            return Ok(());
-        }
-        self.flush(host)
     }
 
     // Reads the next block of the schedule, where the last one is taken.

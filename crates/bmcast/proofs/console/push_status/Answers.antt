@@ -14,4 +14,5 @@ returns-in-ReadFault-clause-text c =
 pub returns-in-WriteFault-clause-text : goal.returns-in-WriteFault-clause-text
 returns-in-WriteFault-clause-text c =
     rw (c.in-WriteFault.is, ← c.role_name-in-WriteFault.ensures.name)
-    (c.push_two-in-WriteFault.ensures.text ∙ append_assoc c.args.line.now.items (codes "cannot write ") c.role_name-in-WriteFault.result.now)
+    (c.push_two-in-WriteFault.ensures.text
+    ∙ append_assoc c.args.line.now.items (codes "cannot write ") c.role_name-in-WriteFault.result.now)

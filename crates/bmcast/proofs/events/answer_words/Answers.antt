@@ -11,7 +11,8 @@ loop-preserved c =
     let was = c.loop.machine in
     let after = c.read_word-word.ensures.after in
     let step = device_after (physical was) (physical c.read_word-word.new.self) (after_read_word (device was)) after refl in (
-      words_left c.args.n c.loop.counter c.read_word-word.result (device was) _ _ _ _ _ c.loop-test.true c.loop.invariant.0 c.read_word-word.ensures.answer step c.push-in-loop.ensures.items c.push-in-loop-2.ensures.items,
+      words_left c.args.n c.loop.counter c.read_word-word.result (device was) _ _ _ _ _ c.loop-test.true
+          c.loop.invariant.0 c.read_word-word.ensures.answer step c.push-in-loop.ensures.items c.push-in-loop-2.ensures.items,
       after_words_left c.args.n c.loop.counter (device was) _ _ c.loop-test.true c.loop.invariant.1 step,
       omega arith,
       c.loop.invariant.3,
@@ -27,4 +28,5 @@ returns-clause-bytes c =
 pub returns-clause-after : goal.returns-clause-after
 returns-clause-after c =
     let end : c.loop.counter ≡ c.args.n = omega arith in
-    moved c.args.machine.now c.loop.machine _ (no_step_left c.args.n _ _ (rw end at c.loop.invariant.1)) c.loop.invariant.4 c.loop.invariant.5
+    moved c.args.machine.now c.loop.machine _ (no_step_left c.args.n _ _ (rw end at c.loop.invariant.1))
+    c.loop.invariant.4 c.loop.invariant.5

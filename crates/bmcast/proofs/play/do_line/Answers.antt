@@ -10,7 +10,8 @@ use Rattle.bmcast.proofs.play.do_line.Goals as goal
 pub returns-in-Err-clause-bad : goal.returns-in-Err-clause-bad
 returns-in-Err-clause-bad g c = λ start.
     let fault = rw (c.in-Err.is, c.as_slice.ensures.value) at c.read_line-said.ensures.fault in
-    taken_failed start c.args.streams.now (g.H.Host.outside c.args.host.now) _ c.args.line.now.items c.args.number c.args.number c.in-Err.fault
+    taken_failed start c.args.streams.now (g.H.Host.outside c.args.host.now) _ c.args.line.now.items
+    c.args.number c.args.number c.in-Err.fault
     c.requires.number refl (line_fails c.args.line.now.items c.in-Err.fault c.args.number fault)
 
 pub returns-in-Err-progress_after-clause-bad : goal.returns-in-Err-progress_after-clause-bad
@@ -18,7 +19,8 @@ returns-in-Err-progress_after-clause-bad g c =
     let says = rw (c.in-Ok.is, c.as_slice.ensures.value) at c.read_line-said.ensures.said in
     bad_line_weaker {T = Progress} (Err c.in-Err-progress_after.stop) _ _
     (λ bad kind fails start.
-    taken_failed start c.args.streams.now (g.H.Host.outside c.args.host.now) _ c.args.line.now.items c.args.number bad kind c.requires.number fails.0 fails.1)
+    taken_failed start c.args.streams.now (g.H.Host.outside c.args.host.now) _ c.args.line.now.items
+    c.args.number bad kind c.requires.number fails.0 fails.1)
     (c.in-Err-progress_after.ensures.bad c.args.line.now.items says)
 
 pub returns-clause-done : goal.returns-clause-done
@@ -26,5 +28,5 @@ returns-clause-done g c = λ start was.
     let says = rw (c.in-Ok.is, c.as_slice.ensures.value) at c.read_line-said.ensures.said in
     line_done start c.args.streams.now c.do_event.new.streams (g.H.Host.outside c.args.host.now) (g.H.Host.outside c.do_event.new.host)
     _ _ c.args.line.now.items c.args.number _ _ _ says
-    (c.in_ok-do_event.ensures.files Schedule (λ e. cc)) c.in_ok-do_event.ensures.event c.in_ok-do_event.ensures.said c.in_ok-do_event.ensures.unread was
+    (c.in_ok-do_event.ensures.files Schedule (λ e. cc)) c.in_ok-do_event.ensures.event c.in_ok-do_event.ensures.reported was
     c.in-Ok-progress_after.progress c.requires.number c.in-Ok-progress_after.ensures.leads

@@ -7,17 +7,29 @@ use Rattle.bmcast.proofs.run.run.Goals as goal
 
 pub returns-clause-done : goal.returns-clause-done
 returns-clause-done g c = on_ok_weaker c.run_events.result
-    (λ done. record { choice = seen c.in-Some.options; says = c.in-Some.ensures.found; holds = done_from _ _ _ _ c.in-Ok.ensures.files done }) c.run_events.ensures.done
+    (λ done. record {
+      choice = seen c.in-Some.options;
+      says = c.in-Some.ensures.found;
+      holds = done_from _ _ _ _ c.in-Ok.ensures.files done;
+    })
+    c.run_events.ensures.done
 
 pub returns-clause-bad : goal.returns-clause-bad
 returns-clause-bad g c = bad_line_weaker c.run_events.result _ _
-    (λ number kind bad. record { choice = seen c.in-Some.options; says = c.in-Some.ensures.found; holds = bad_line_since _ _ _ _ number kind c.in-Ok.ensures.files bad }) c.run_events.ensures.bad
+    (λ number kind bad. record {
+      choice = seen c.in-Some.options;
+      says = c.in-Some.ensures.found;
+      holds = bad_line_since _ _ _ _ number kind c.in-Ok.ensures.files bad;
+    })
+    c.run_events.ensures.bad
 
 pub returns-clause-reason : goal.returns-clause-reason
-returns-clause-reason g c = late_reason _ _ (seen c.in-Some.options) c.run_events.result c.in-Some.ensures.found c.in-Ok.ensures.suitable c.run_events.ensures.late
+returns-clause-reason g c = late_reason _ _ (seen c.in-Some.options) c.run_events.result c.in-Some.ensures.found
+    c.in-Ok.ensures.suitable c.run_events.ensures.late
 
 pub returns-in-Err-clause-bad : goal.returns-in-Err-clause-bad
 returns-in-Err-clause-bad g c = early_no_bad_line (Unit {0}) c.in-Err.stop _ c.in-Err.ensures.early
 
 pub returns-in-Err-clause-reason : goal.returns-in-Err-clause-reason
-returns-in-Err-clause-reason g c = early_reason _ _ (seen c.in-Some.options) c.in-Err.stop c.in-Some.ensures.found c.in-Err.ensures.refused c.in-Err.ensures.early
+returns-in-Err-clause-reason g c = early_reason _ _ (seen c.in-Some.options) c.in-Err.stop c.in-Some.ensures.found
+    c.in-Err.ensures.refused c.in-Err.ensures.early

@@ -1,0 +1,54 @@
+//! Bytes that wait to be written to a role, so that one call writes many.
+
+ghost use Rattle.std.specs.Prelude.{◌≡◌, ◌≤◌, ◌+◌, [], length, IfErr, OnOk};
+ghost use Rattle.bm_host.specs.Outside.{SameElsewhere};
+ghost use Rattle.bmcast.specs.Stop.{Ended, IsFault};
+ghost use Rattle.bmcast.specs.Waiting.{KeepsWaiting};
+
+use crate::stop::Stop;
+use arrayvec::ArrayVec;
+use bm_host::{Host, Role};
+
+/// Writes what waits.
+pub fn write_waiting<H: Host, const N: usize>(
+    host: &mut H,
+    role: Role,
+    waiting: &mut ArrayVec<u8, N>,
+) -> Result<(), Stop>
+    ensures counts { Ended result (H.outside host.old) (H.outside host.new) }
+    ensures fault { IfErr result IsFault }
+    ensures elsewhere { SameElsewhere role (H.outside host.old) (H.outside host.new) }
+    ensures waits { OnOk result (KeepsWaiting role waiting.old.items waiting.new.items
+        (H.outside host.old) (H.outside host.new)) }
+    ensures empty { OnOk result (waiting.new.items ≡ []) }
+{
+    if waiting.is_empty() {
+        return Ok(());
+    }
+    let Ok(()) = host.write_next(role, waiting.as_slice()) else {
+        return Err(Stop::WriteFault(role));
+    };
+    waiting.clear();
+    Ok(())
+}
+
+/// Writes what waits, where so many bytes more don't fit beside it.
+pub fn make_room<H: Host, const N: usize>(
+    host: &mut H,
+    role: Role,
+    waiting: &mut ArrayVec<u8, N>,
+    more: usize,
+) -> Result<(), Stop>
+    requires { more ≤ N }
+    ensures counts { Ended result (H.outside host.old) (H.outside host.new) }
+    ensures fault { IfErr result IsFault }
+    ensures elsewhere { SameElsewhere role (H.outside host.old) (H.outside host.new) }
+    ensures waits { OnOk result (KeepsWaiting role waiting.old.items waiting.new.items
+        (H.outside host.old) (H.outside host.new)) }
+    ensures room { OnOk result (length waiting.new.items + more ≤ N) }
+{
+    if more <= waiting.remaining_capacity() {
+        return Ok(());
+    }
+    write_waiting(host, role, waiting)
+}
