@@ -1,6 +1,7 @@
 //! One event of the schedule, on a drive without a monitor.
 
 ghost use Rattle.std.specs.Prelude.{◌≡◌, ◌≤◌, ◌+◌, ◌++◌, ◌∷◌, [], length};
+ghost use Rattle.ata_taskfile.specs.Lawful.{is_fresh};
 ghost use Rattle.ata_taskfile.specs.Order.{has_range};
 ghost use Rattle.plain_drive.specs.Plain.{words_of};
 ghost use Rattle.plain_drive.specs.Physical.{seen};
@@ -9,7 +10,7 @@ ghost use Rattle.schedule_text.specs.Line.{IsInRange};
 ghost use Rattle.plain_run.specs.Entry.{answers_in, commands_in, entry_of, plan_in};
 ghost use Rattle.plain_run.specs.Event.{answer_to, memory_read, memory_written};
 ghost use Rattle.plain_run.specs.Run.{DriveEvent, physical_event, plan_due, step_item};
-ghost use Rattle.plain_run.specs.Taken.{just_taken, is_just_taken, command_item};
+ghost use Rattle.plain_run.specs.Taken.{just_taken, command_item};
 ghost use Rattle.bmcast.specs.Machine.{device, physical, with_device, with_memory};
 
 use crate::machine::Machine;
@@ -214,7 +215,7 @@ fn has_range(kind: Kind) -> bool
 }
 
 fn is_just_taken(file: &TaskFile) -> bool
-    ensures { result ≡ is_just_taken file.now.phase }
+    ensures { result ≡ is_fresh file.now.phase }
 {
     matches!(file.phase, Phase::Busy(_, 0))
 }

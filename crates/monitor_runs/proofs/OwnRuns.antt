@@ -1,6 +1,5 @@
 -- What a step and a destage of the drive make of an own command.
-use Rattle.std.proofs.Common.{◌≡◌, ℕ, ◌+◌, Bool, false, true, List, refl, sym, ap, ◌∙◌, subst, arith}
-use Rattle.ata_taskfile.specs.declared.Request.{Request}
+use Rattle.std.proofs.Common.{◌≡◌, ℕ, Bool, false, true, List, refl, ◌∙◌, arith}
 use Rattle.ata_taskfile.specs.declared.Step.{Step}
 use Rattle.ata_taskfile.specs.declared.Step.TheVariants as step
 use Rattle.ata_taskfile.specs.declared.Taken.TheVariants.{Good, Bad}
@@ -9,7 +8,7 @@ use Rattle.ata_taskfile.specs.declared.Phase.TheVariants.{Reset, Idle, Busy, Rea
 use Rattle.ata_taskfile.specs.Device.{Device, Cell}
 use Rattle.ata_taskfile.specs.Lawful.{IsLawful}
 use Rattle.plain_drive.specs.Plain.{Plain}
-use Rattle.plain_drive.specs.Change.{Change, leaves, change_made, change_in, cells_after}
+use Rattle.plain_drive.specs.Change.{leaves, change_made, change_in}
 use Rattle.plain_drive.specs.Step.{step_made}
 use Rattle.plain_drive.specs.Physical.{Physical, seen, physical_step, physical_destaged, kept_after, cells_of}
 use Rattle.own_pio.specs.declared.job.OwnJob.{OwnJob}

@@ -6,6 +6,7 @@ ghost use Rattle.port_lease.specs.Sides.{has_own};
 ghost use Rattle.dummy_read.specs.Dummy.{sector_of, is_cancelled};
 ghost use Rattle.dummy_read.specs.Flight.{IsInFlight};
 ghost use Rattle.drive_model.specs.Drive.{device_of};
+ghost use Rattle.monitor_runs.specs.Stands.{IsInFlight-prop};
 
 use crate::machine::{Machine, two_sectors};
 use crate::own_commands::written;
@@ -40,6 +41,8 @@ struct Flight {
     machine: Machine,
     dummy: Dummy,
     ended: bool,
+    ghost flies: { ended ≡ false → IsInFlight (sector_of dummy) (is_cancelled dummy)
+        (device_of machine.drive) } by { Prim.hlevel IsInFlight-prop },
 }
 
 // The monitor's side, with the guest's Device Control in the view.
@@ -54,8 +57,6 @@ fn side_with(control: u8) -> MonitorSide
 fn raise(machine: Machine, control: u8, sector: u64) -> Flight
     requires free { is_free (device_of machine.drive).file ≡ true }
     requires below { sector < 2 ^ 28 }
-    ensures { IsInFlight (sector_of result.dummy) (is_cancelled result.dummy)
-        (device_of result.machine.drive) }
 {
     let mut machine = machine;
     let mut side = side_with(control);
@@ -70,10 +71,7 @@ fn raise(machine: Machine, control: u8, sector: u64) -> Flight
 
 impl Flight {
     // The first of some acts that gives something else, with what it gives.
-    fn first_wrong(&mut self, acts: &[Act]) -> Option<(Act, Act)>
-        requires { self.old.ended ≡ false → IsInFlight (sector_of self.old.dummy)
-            (is_cancelled self.old.dummy) (device_of self.old.machine.drive) }
-    {
+    fn first_wrong(&mut self, acts: &[Act]) -> Option<(Act, Act)> {
         for act in acts {
             let given = self.act(*act);
             if given != *act {
@@ -83,12 +81,7 @@ impl Flight {
         None
     }
 
-    fn act(&mut self, act: Act) -> Act
-        requires { self.old.ended ≡ false → IsInFlight (sector_of self.old.dummy)
-            (is_cancelled self.old.dummy) (device_of self.old.machine.drive) }
-        ensures { self.new.ended ≡ false → IsInFlight (sector_of self.new.dummy)
-            (is_cancelled self.new.dummy) (device_of self.new.machine.drive) }
-    {
+    fn act(&mut self, act: Act) -> Act {
         match act {
             Act::Steps(step) => self.step(step),
             Act::Destages => self.destage(),
@@ -102,42 +95,22 @@ impl Flight {
         act
     }
 
-    fn step(&mut self, step: Step)
-        requires { self.old.ended ≡ false → IsInFlight (sector_of self.old.dummy)
-            (is_cancelled self.old.dummy) (device_of self.old.machine.drive) }
-        ensures { self.new.ended ≡ false → IsInFlight (sector_of self.new.dummy)
-            (is_cancelled self.new.dummy) (device_of self.new.machine.drive) }
-    {
+    fn step(&mut self, step: Step) {
         self.machine.step(step);
     }
 
-    fn destage(&mut self)
-        requires { self.old.ended ≡ false → IsInFlight (sector_of self.old.dummy)
-            (is_cancelled self.old.dummy) (device_of self.old.machine.drive) }
-        ensures { self.new.ended ≡ false → IsInFlight (sector_of self.new.dummy)
-            (is_cancelled self.new.dummy) (device_of self.new.machine.drive) }
-    {
+    fn destage(&mut self) {
         self.machine.destage();
     }
 
-    fn cancel(&mut self)
-        requires { self.old.ended ≡ false → IsInFlight (sector_of self.old.dummy)
-            (is_cancelled self.old.dummy) (device_of self.old.machine.drive) }
-        ensures { self.new.ended ≡ false → IsInFlight (sector_of self.new.dummy)
-            (is_cancelled self.new.dummy) (device_of self.new.machine.drive) }
-    {
+    fn cancel(&mut self) {
         if !self.ended {
             self.dummy.cancel(&mut self.side, &mut self.machine.drive);
         }
     }
 
     // What the poll answers; false once the read has ended.
-    fn poll(&mut self) -> bool
-        requires { self.old.ended ≡ false → IsInFlight (sector_of self.old.dummy)
-            (is_cancelled self.old.dummy) (device_of self.old.machine.drive) }
-        ensures { self.new.ended ≡ false → IsInFlight (sector_of self.new.dummy)
-            (is_cancelled self.new.dummy) (device_of self.new.machine.drive) }
-    {
+    fn poll(&mut self) -> bool {
         if self.ended {
             return false;
         }
@@ -146,23 +119,13 @@ impl Flight {
         answer
     }
 
-    fn shown(&mut self) -> Act
-        requires { self.old.ended ≡ false → IsInFlight (sector_of self.old.dummy)
-            (is_cancelled self.old.dummy) (device_of self.old.machine.drive) }
-        ensures { self.new.ended ≡ false → IsInFlight (sector_of self.new.dummy)
-            (is_cancelled self.new.dummy) (device_of self.new.machine.drive) }
-    {
+    fn shown(&mut self) -> Act {
         let status = self.machine.drive.read8(Reg::Alternate);
         let control = self.machine.drive.file().control;
         Act::Shows(control, status, self.machine.drive.line())
     }
 
-    fn failed(&mut self) -> Act
-        requires { self.old.ended ≡ false → IsInFlight (sector_of self.old.dummy)
-            (is_cancelled self.old.dummy) (device_of self.old.machine.drive) }
-        ensures { self.new.ended ≡ false → IsInFlight (sector_of self.new.dummy)
-            (is_cancelled self.new.dummy) (device_of self.new.machine.drive) }
-    {
+    fn failed(&mut self) -> Act {
         Act::Fails(self.machine.drive.read8(Reg::Error))
     }
 
@@ -178,7 +141,8 @@ impl Flight {
     }
 }
 
-// A dummy read on a free machine: the first of some acts that gives something else, with what it gives, and the machine.
+// A dummy read on a free machine: the first of some acts that gives something else, with what it gives, and the
+// machine.
 fn flown(machine: Machine, control: u8, sector: u64, acts: &[Act]) -> (Option<(Act, Act)>, Machine)
     requires { sector < 2 ^ 28 }
 {

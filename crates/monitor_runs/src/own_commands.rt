@@ -6,6 +6,7 @@ ghost use Rattle.own_pio.specs.Job.{IsFit, count_of};
 ghost use Rattle.own_pio.specs.Own.{job_of, done_of, polls_left};
 ghost use Rattle.own_pio.specs.Running.{IsRunning};
 ghost use Rattle.drive_model.specs.Drive.{device_of};
+ghost use Rattle.monitor_runs.specs.Stands.{IsRunning-prop};
 
 use crate::machine::{Machine, two_sectors};
 use Before::{Destages, Nothing, Steps};
@@ -39,6 +40,8 @@ struct Run {
     ended: bool,
     ghost whole: { length bytes.items ≡ 512 * count_of (job_of own) },
     ghost counted: { left ≡ polls_left own },
+    ghost runs: { ended ≡ false → IsRunning (job_of own) (done_of own)
+        (device_of machine.drive) } by { Prim.hlevel IsRunning-prop },
 }
 
 // Between two polls; while a block waits in Data nothing is made durable.
@@ -74,8 +77,6 @@ fn begin(machine: Machine, job: OwnJob, bytes: Vec<u8>) -> Run
     requires free { is_free (device_of machine.drive).file ≡ true }
     requires fit { IsFit job }
     requires whole { length bytes.items ≡ 512 * count_of job }
-    ensures { result.ended ≡ false
-        → IsRunning (job_of result.own) (done_of result.own) (device_of result.machine.drive) }
 {
     let mut machine = machine;
     let mut side = power_on();
@@ -97,12 +98,7 @@ fn begin(machine: Machine, job: OwnJob, bytes: Vec<u8>) -> Run
 
 impl Run {
     // What a poll after this answers; None once the command has ended.
-    fn turn(&mut self, before: Before) -> Option<Poll>
-        requires { self.old.ended ≡ false → IsRunning (job_of self.old.own)
-            (done_of self.old.own) (device_of self.old.machine.drive) }
-        ensures { self.new.ended ≡ false → IsRunning (job_of self.new.own)
-            (done_of self.new.own) (device_of self.new.machine.drive) }
-    {
+    fn turn(&mut self, before: Before) -> Option<Poll> {
         if self.ended || self.left == 0 {
             return None;
         }
@@ -122,10 +118,7 @@ impl Run {
     }
 
     // The place of the first turn whose poll answers otherwise.
-    fn first_wrong(&mut self, turns: &[(Before, Poll)]) -> Option<usize>
-        requires { self.old.ended ≡ false → IsRunning (job_of self.old.own)
-            (done_of self.old.own) (device_of self.old.machine.drive) }
-    {
+    fn first_wrong(&mut self, turns: &[(Before, Poll)]) -> Option<usize> {
         for (place, (before, wanted)) in turns.iter().enumerate() {
             if self.turn(*before) != Some(*wanted) {
                 return Some(place);
@@ -220,8 +213,8 @@ fn a_read_of_two_sectors(rt: HostRuntime) -> Result<(), Fail> {
     Ok(())
 }
 
-// The turns of a write of A1B1h in each word of sector 1, and of A2B2h in each of sector 2, and the words that a read of
-// both gives after it. The sectors had 1234h and ABCDh. A write that fails after k blocks went has its first k - 1
+// The turns of a write of A1B1h in each word of sector 1, and of A2B2h in each of sector 2, and the words that a read
+// of both gives after it. The sectors had 1234h and ABCDh. A write that fails after k blocks went has its first k - 1
 // sectors new, and the others old.
 const WRITES: [(Turns, [u16; 2]); 6] = [
     (

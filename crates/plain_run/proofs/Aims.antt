@@ -24,13 +24,13 @@ use Rattle.ata_taskfile.specs.Bus.{bus_written}
 use Rattle.ata_taskfile.specs.Data.{phase_after_read, phase_after_write}
 use Rattle.ata_taskfile.specs.Order.{Row, Inputs, inputs, has_range, row_of, order_in, order_of, taken, request_of, within, is_accepted}
 use Rattle.ata_taskfile.specs.Device.{Device, with_bus, in_hand, after_wrote, after_read8, after_write8, after_read_word, after_write_word}
-use Rattle.ata_taskfile.specs.Lawful.{is_possible, moves_in}
+use Rattle.ata_taskfile.specs.Lawful.{is_fresh, is_possible, moves_in}
 use Rattle.ata_taskfile.proofs.Lawfulness.{order-possible}
 use Rattle.plain_drive.specs.Plain.{Plain, with_registers}
 use Rattle.plain_drive.specs.Words.{after_words, after_written}
 use Rattle.plain_drive.specs.Step.{stepped, failed_step, step_made, proceeded, sector_given, transferred, walked, first_wanted, next_wanted, offered, ended}
 use Rattle.schedule_text.specs.declared.Item.TheVariants as item
-use Rattle.plain_run.specs.Taken.{command_item, commands_due, is_just_taken}
+use Rattle.plain_run.specs.Taken.{command_item, commands_due}
 use Rattle.plain_run.specs.Written.{is_outward, is_within, row_writes, writes_sectors, names_write, items_name}
 
 -- an order brings data to this sector
@@ -50,7 +50,7 @@ outward_ranged : (kind : Kind) (form : Form) → moves_in kind form ≡ true →
 outward_ranged kind form possible outward = grind arith
 
 -- where a Command write isn't ignored, no command was just taken
-none_taken : (phase : Phase) (absent : Bool) → (has_command phase || absent) ≡ false → is_just_taken phase ≡ false
+none_taken : (phase : Phase) (absent : Bool) → (has_command phase || absent) ≡ false → is_fresh phase ≡ false
 none_taken phase absent e = grind arith
 
 module _ (s : ℕ) where
@@ -87,7 +87,8 @@ module _ (s : ℕ) where
 
   -- an order of a row whose command line doesn't name the sector doesn't bring data to it
   named_away : (byte : ℕ) (order : Request) (outward : Bool) → is_outward order.form ≡ outward → writes_sectors byte ≡ outward
-      → is_possible (Good order) ≡ true → names_write s (command_item byte (Good order)) ≡ false → outward && is_within order.first order.count s ≡ false
+      → is_possible (Good order) ≡ true → names_write s (command_item byte (Good order)) ≡ false
+      → outward && is_within order.first order.count s ≡ false
   named_away byte order false is writing possible unnamed = refl
   named_away byte order true is writing possible unnamed =
       let ranged = outward_ranged order.kind order.form (and_parts _ _ possible).0 is in
@@ -101,7 +102,8 @@ module _ (s : ℕ) where
 
   within_away : (byte : ℕ) (order : Request) (beyond : Bool) → writes_sectors byte ≡ is_outward order.form
       → is_possible (taken (if beyond then Err NotFound else Ok order)) ≡ true
-      → names_write s (command_item byte (taken (if beyond then Err NotFound else Ok order))) ≡ false → aims_at s (taken (if beyond then Err NotFound else Ok order)) ≡ false
+      → names_write s (command_item byte (taken (if beyond then Err NotFound else Ok order))) ≡ false
+      → aims_at s (taken (if beyond then Err NotFound else Ok order)) ≡ false
   within_away byte order true writing possible unnamed = refl
   within_away byte order false writing possible unnamed = request_away byte order writing possible unnamed
 
@@ -110,7 +112,8 @@ module _ (s : ℕ) where
       → names_write s (command_item byte (taken (if accepted then within n order else Err Abort))) ≡ false
       → aims_at s (taken (if accepted then within n order else Err Abort)) ≡ false
   accepted_away byte n order false writing possible unnamed = refl
-  accepted_away byte n order true writing possible unnamed = within_away byte order (nat_lt n (order.first + order.count)) writing possible unnamed
+  accepted_away byte n order true writing possible unnamed = within_away byte order (nat_lt n (order.first + order.count)) writing
+      possible unnamed
 
   row_away : (row : Option Row) (byte n : ℕ) (i : Inputs) → row_of byte ≡ row → is_possible (taken (order_in row i n)) ≡ true
       → names_write s (command_item byte (taken (order_in row i n))) ≡ false → aims_at s (taken (order_in row i n)) ≡ false
@@ -163,13 +166,16 @@ module _ (s : ℕ) where
   wrote_away ResetBegun r v d w away unnamed = after_write_away r v d.file away
 
   either_away : (of_bus : Bool) (r : Reg) (v : ℕ) (d : Device) → aims_in s d.file.phase ≡ false
-      → items_name s (commands_due d.file (if of_bus then with_bus (bus_written r v d.bus) d else after_wrote (wrote r v d.file) (after_write r v d.file) d).file) ≡ false
-      → aims_in s (if of_bus then with_bus (bus_written r v d.bus) d else after_wrote (wrote r v d.file) (after_write r v d.file) d).file.phase ≡ false
+      → items_name s (commands_due d.file (if of_bus then with_bus (bus_written r v d.bus) d
+      else after_wrote (wrote r v d.file) (after_write r v d.file) d).file) ≡ false
+      → aims_in s (if of_bus then with_bus (bus_written r v d.bus) d
+      else after_wrote (wrote r v d.file) (after_write r v d.file) d).file.phase ≡ false
   either_away true r v d away unnamed = away
   either_away false r v d away unnamed = wrote_away (wrote r v d.file) r v d refl away unnamed
 
   -- a write of a register, where no command line of it names the sector
-  pub write8_away : (r : Reg) (v : ℕ) (d : Device) → aims_in s d.file.phase ≡ false → items_name s (commands_due d.file (after_write8 r v d).file) ≡ false
+  pub write8_away : (r : Reg) (v : ℕ) (d : Device) → aims_in s d.file.phase ≡ false
+      → items_name s (commands_due d.file (after_write8 r v d).file) ≡ false
       → aims_in s (after_write8 r v d).file.phase ≡ false
   write8_away r v d away unnamed = either_away (is_of_bus r) r v d away unnamed
 
@@ -179,7 +185,8 @@ module _ (s : ℕ) where
   chosen_away true p q one other = one
   chosen_away false p q one other = other
 
-  proceeded_away : (form : Form) (order : Request) (done : ℕ) (p : Plain) → aims_at s (Good order) ≡ false → aims_in s (proceeded form order done p).device.file.phase ≡ false
+  proceeded_away : (form : Form) (order : Request) (done : ℕ) (p : Plain) → aims_at s (Good order) ≡ false
+      → aims_in s (proceeded form order done p).device.file.phase ≡ false
   proceeded_away NoMove order done p away = refl
   proceeded_away PioIn order done p away = away
   proceeded_away PioOut order done p away =
@@ -188,14 +195,16 @@ module _ (s : ℕ) where
   proceeded_away DmaIn order done p away = chosen_away (nat_lt done order.count) (sector_given order done p) (transferred order p) away refl
   proceeded_away DmaOut order done p away = chosen_away (nat_lt done order.count) (walked order done p) (transferred order p) away refl
 
-  stepped_away : (phase : Phase) (p : Plain) → p.device.file.phase ≡ phase → aims_in s phase ≡ false → aims_in s (stepped phase p).device.file.phase ≡ false
+  stepped_away : (phase : Phase) (p : Plain) → p.device.file.phase ≡ phase → aims_in s phase ≡ false
+      → aims_in s (stepped phase p).device.file.phase ≡ false
   stepped_away Reset p e away = chosen_away (holds_reset p.device.file) p (with_registers (reset_ended p.device.file) p) (rw e away) refl
   stepped_away Idle p e away = rw e away
   stepped_away (Ready order done left) p e away = rw e away
   stepped_away (Busy (Bad reason) done) p e away = refl
   stepped_away (Busy (Good order) done) p e away = proceeded_away order.form order done p away
 
-  failed_away : (phase : Phase) (p : Plain) → p.device.file.phase ≡ phase → aims_in s phase ≡ false → aims_in s (failed_step phase p).device.file.phase ≡ false
+  failed_away : (phase : Phase) (p : Plain) → p.device.file.phase ≡ phase → aims_in s phase ≡ false
+      → aims_in s (failed_step phase p).device.file.phase ≡ false
   failed_away Reset p e away = rw e away
   failed_away Idle p e away = rw e away
   failed_away (Ready order done left) p e away = rw e away

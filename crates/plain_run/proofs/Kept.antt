@@ -71,7 +71,8 @@ module _ (Q : ℕ → List ℕ → Type 0) where
   put_holds (Some e) n entries durable there all holds = made_holds e durable (entry_at n entries e there all) holds
 
   -- all entries do
-  all_holds : (entries : List Entry) (durable : List (List ℕ)) → AllEntries entries → AllHold durable → AllHold (all_durable entries durable)
+  all_holds : (entries : List Entry) (durable : List (List ℕ)) → AllEntries entries → AllHold durable
+      → AllHold (all_durable entries durable)
   all_holds [] durable all holds = holds
   all_holds (e ∷ entries) durable all holds =
       all_holds entries (made_durable e durable) (All-tail (λ (x : Entry). Q x.sector x.bytes) e entries all)
@@ -82,11 +83,13 @@ module _ (Q : ℕ → List ℕ → Type 0) where
   taken_holds None n entries all = all
   taken_holds (Some e) n entries all =
       All-append (λ (x : Entry). Q x.sector x.bytes) (entries_but e.sector (take n entries)) (drop (n + 1) entries)
-      (All-filter (λ x. not (is_of e.sector x)) (λ (x : Entry). Q x.sector x.bytes) (take n entries) (All-take (λ (x : Entry). Q x.sector x.bytes) n entries all))
+      (All-filter (λ x. not (is_of e.sector x)) (λ (x : Entry). Q x.sector x.bytes) (take n entries)
+      (All-take (λ (x : Entry). Q x.sector x.bytes) n entries all))
       (All-drop (λ (x : Entry). Q x.sector x.bytes) (n + 1) entries all)
 
   -- room is made for an entry
-  room_holds : (full : Bool) (entries : List Entry) (durable : List (List ℕ)) (e : Entry) (room : ℕ) → AllEntries entries → AllHold durable → Q e.sector e.bytes
+  room_holds : (full : Bool) (entries : List Entry) (durable : List (List ℕ)) (e : Entry) (room : ℕ) → AllEntries entries
+      → AllHold durable → Q e.sector e.bytes
       → Holds Q (record {
         durable = put_durable (if full then slice_get entries 0 else None) durable;
         cache = record { entries = (if full then drop 1 entries else entries) ++ e ∷ []; room = room };
@@ -94,7 +97,8 @@ module _ (Q : ℕ → List ℕ → Type 0) where
   room_holds false entries durable e room all holds one =
       record { entries = All-push (λ (x : Entry). Q x.sector x.bytes) entries e all one; durable = holds }
   room_holds true entries durable e room all holds one = record {
-    entries = All-push (λ (x : Entry). Q x.sector x.bytes) (drop 1 entries) e (All-drop (λ (x : Entry). Q x.sector x.bytes) 1 entries all) one;
+    entries = All-push (λ (x : Entry). Q x.sector x.bytes) (drop 1 entries) e
+        (All-drop (λ (x : Entry). Q x.sector x.bytes) 1 entries all) one;
     durable = put_holds (slice_get entries 0) 0 entries durable refl all holds;
   }
 
@@ -138,7 +142,9 @@ module _ (Q : ℕ → List ℕ → Type 0) where
   first_holds s [] value all one = one
   first_holds s (newest ∷ written) value all one = All-head (Q s) newest written all
 
-  pub current_holds : (s : ℕ) (k : Kept) → s < length k.durable → Holds Q k → Q s (current (slice_index_or (cells_from 0 k.cache.entries k.durable) s (settled [])))
+  pub current_holds : (s : ℕ) (k : Kept) → s < length k.durable → Holds Q k
+      → Q s (current (slice_index_or (cells_from 0 k.cache.entries k.durable) s (settled [])))
   current_holds s k below holds =
       subst (λ cell. Q s (current cell)) (sym (cells_from-at 0 s s k.cache.entries k.durable (omega arith) below))
-      (first_holds s (values_of s k.cache.entries) (get_or k.durable s []) (values_hold s k.cache.entries holds.entries) (holds.durable s below))
+      (first_holds s (values_of s k.cache.entries) (get_or k.durable s []) (values_hold s k.cache.entries holds.entries)
+      (holds.durable s below))

@@ -31,11 +31,13 @@ sound_run start now (entry ∷ earlier) sound (before, run, last) =
 -- of the items only commands name a sector
 commands_name : (s : ℕ) (items : List Item) → items_name s (commands_in items) ≡ items_name s items
 commands_name s [] = refl
-commands_name s (item.Command byte first count ∷ items) = ap (λ rest. names_write s (item.Command byte first count) || rest) (commands_name s items)
+commands_name s (item.Command byte first count ∷ items) = ap (λ rest. names_write s (item.Command byte first count) || rest)
+    (commands_name s items)
 commands_name s (one ∷ items) = commands_name s items
 
 -- an event that takes no command whose line names the sector brings none into hand that brings data to it
-event_away : (s : ℕ) (one : Event) (q : Physical) → aims_in s q.file.phase ≡ false → items_name s (commands_due q.file (physical_event one q).file) ≡ false
+event_away : (s : ℕ) (one : Event) (q : Physical) → aims_in s q.file.phase ≡ false
+    → items_name s (commands_due q.file (physical_event one q).file) ≡ false
     → aims_in s (physical_event one q).file.phase ≡ false
 event_away s (event.Read8 r) q away unnamed = read8_away s r (seen q).device away
 event_away s (event.Write8 r v) q away unnamed = write8_away s r v (seen q).device away unnamed
@@ -65,21 +67,25 @@ module _ (s : ℕ) (value : List ℕ) where
         away = event_away s entry.event q was.away (ap (items_name s) (sym one.commands) ∙ commands_name s entry.items ∙ unnamed);
       }
 
-  untouched_run : (start now : Physical) (entries : List Entry) → is_named s entries ≡ false → IsUntouched start → IsDriveRun start entries now → IsUntouched now
+  untouched_run : (start now : Physical) (entries : List Entry) → is_named s entries ≡ false → IsUntouched start
+      → IsDriveRun start entries now → IsUntouched now
   untouched_run start now [] unnamed was run = subst IsUntouched (sym run) was
   untouched_run start now (entry ∷ earlier) unnamed was (before, run, last) =
       let parts = or_parts (items_name s entry.items) (is_named s earlier) unnamed in
       subst IsUntouched (sym last.after)
-      (untouched_event entry before (subst (DriveEvent before entry) last.after last) parts.0 (untouched_run start before earlier parts.1 was run))
+      (untouched_event entry before (subst (DriveEvent before entry) last.after last) parts.0
+      (untouched_run start before earlier parts.1 was run))
 
 -- at the end of a run that began with whole sectors, all of them durable:
 module _ (room : ℕ) (durable : List (List ℕ)) (memory : List ℕ) (entries : List Entry) (now : Physical) where
   -- there are as many sectors
-  pub run_count : IsDriveRun (physical_at_power_on (fresh room durable) (length durable) memory) entries now → length now.kept.durable ≡ length durable
+  pub run_count : IsDriveRun (physical_at_power_on (fresh room durable) (length durable) memory) entries now
+      → length now.kept.durable ≡ length durable
   run_count run = run_length (physical_at_power_on (fresh room durable) (length durable) memory) now entries run
 
   -- they are whole
-  pub run_whole : All (λ sector. length sector ≡ 512) durable → IsDriveRun (physical_at_power_on (fresh room durable) (length durable) memory) entries now
+  pub run_whole : All (λ sector. length sector ≡ 512) durable
+      → IsDriveRun (physical_at_power_on (fresh room durable) (length durable) memory) entries now
       → All (λ sector. length sector ≡ 512) now.kept.durable
   run_whole all run =
       let start : Physical = physical_at_power_on (fresh room durable) (length durable) memory in
@@ -87,13 +93,15 @@ module _ (room : ℕ) (durable : List (List ℕ)) (memory : List ℕ) (entries :
       All-from_get_or (λ sector. length sector ≡ 512) now.kept.durable [] sound.kept.durable
 
   -- and one that no line of a write names has its value
-  pub only_named : All (λ sector. length sector ≡ 512) durable → IsDriveRun (physical_at_power_on (fresh room durable) (length durable) memory) entries now
+  pub only_named : All (λ sector. length sector ≡ 512) durable
+      → IsDriveRun (physical_at_power_on (fresh room durable) (length durable) memory) entries now
       → (s : ℕ) → is_named s entries ≡ false → get_or now.kept.durable s [] ≡ get_or durable s []
   only_named all run s unnamed =
       let start : Physical = physical_at_power_on (fresh room durable) (length durable) memory in
       let value : List ℕ = get_or durable s [] in
       let many = run_count run in
-      let fresh_same = fresh_sound (Same s value) durable room memory (λ at below. (all at [] below, λ same. ap (λ i. get_or durable i []) same)) in
+      let fresh_same = fresh_sound (Same s value) durable room memory
+      (λ at below. (all at [] below, λ same. ap (λ i. get_or durable i []) same)) in
       let end = untouched_run s value start now entries unnamed (record { sound = fresh_same; away = refl }) run in
       elim (cases_lt s (length now.kept.durable)) [
         | inl below ↦ (end.sound.kept.durable s below).1 refl

@@ -6,6 +6,7 @@ use Rattle.ata_taskfile.specs.declared.Phase.TheVariants.{Reset, Idle, Busy, Rea
 use Rattle.ata_taskfile.specs.declared.Taken.{Taken}
 use Rattle.ata_taskfile.specs.declared.Taken.TheVariants.{Good, Bad}
 use Rattle.ata_taskfile.specs.Order.{has_range}
+use Rattle.ata_taskfile.specs.Lawful.{is_fresh}
 use Rattle.plain_drive.specs.Physical.{Physical, seen}
 use Rattle.schedule_text.specs.declared.Event.{Event}
 use Rattle.schedule_text.specs.declared.Item.{Item}
@@ -13,7 +14,7 @@ use Rattle.schedule_text.specs.declared.Item.TheVariants as item
 use Rattle.plain_run.specs.Entry.{answers_in, plan_in, commands_in, entry_of}
 use Rattle.plain_run.specs.Event.{answer_to}
 use Rattle.plain_run.specs.Run.{DriveEvent, physical_event, plan_due}
-use Rattle.plain_run.specs.Taken.{just_taken, is_just_taken, command_item}
+use Rattle.plain_run.specs.Taken.{just_taken, command_item}
 
 -- items that are no answer and no plan item, but commands
 record AreCommands (items : List Item) : Type 0 where
@@ -38,7 +39,8 @@ just_commands byte (Busy order (suc done)) = record { answers = λ _. refl; plan
 just_commands byte (Busy order zero) = item_commands byte order
 
 -- behind other items they are no answer, no plan item, and all commands
-answers_behind : (items last : List Item) (bytes : List ℕ) → answers_in last bytes ≡ [] → answers_in (items ++ last) bytes ≡ answers_in items bytes
+answers_behind : (items last : List Item) (bytes : List ℕ) → answers_in last bytes ≡ []
+    → answers_in (items ++ last) bytes ≡ answers_in items bytes
 answers_behind [] last bytes none = none
 answers_behind (item.Answer ∷ items) last bytes none = ap (λ xs. bytes ∷ xs) (answers_behind items last bytes none)
 answers_behind (one ∷ items) last bytes none = answers_behind items last bytes none
@@ -55,19 +57,21 @@ commands_behind (item.Command byte first count ∷ items) last none = absurd cc
 commands_behind (one ∷ items) last none = commands_behind items last none
 
 -- the item of a command that was just taken is no answer, no plan item and the one command
-pub answers_noted : (items : List Item) (byte : ℕ) (phase : Phase) (bytes : List ℕ) → answers_in (items ++ just_taken byte phase) bytes ≡ answers_in items bytes
+pub answers_noted : (items : List Item) (byte : ℕ) (phase : Phase) (bytes : List ℕ)
+    → answers_in (items ++ just_taken byte phase) bytes ≡ answers_in items bytes
 answers_noted items byte phase bytes = answers_behind items (just_taken byte phase) bytes ((just_commands byte phase).answers bytes)
 
 pub plan_noted : (items : List Item) (byte : ℕ) (phase : Phase) → plan_in (items ++ just_taken byte phase) ≡ plan_in items
 plan_noted items byte phase = plan_behind items (just_taken byte phase) (just_commands byte phase).plan
 
-pub commands_noted : (items : List Item) (byte : ℕ) (phase : Phase) → commands_in items ≡ [] → commands_in (items ++ just_taken byte phase) ≡ just_taken byte phase
+pub commands_noted : (items : List Item) (byte : ℕ) (phase : Phase) → commands_in items ≡ []
+    → commands_in (items ++ just_taken byte phase) ≡ just_taken byte phase
 commands_noted items byte phase none = commands_behind items (just_taken byte phase) none ∙ (just_commands byte phase).commands
 
 -- an event of a physical drive that takes a command notes its item
 pub drive_event_noted : (one : Event) (items : List Item) (bytes : List ℕ) (q new : Physical) → new ≡ physical_event one q
     → answers_in items bytes ≡ answer_to one (seen q) → plan_in items ≡ plan_due one (seen q) → commands_in items ≡ []
-    → is_just_taken q.file.phase ≡ false → DriveEvent q (entry_of one (items ++ just_taken new.file.command new.file.phase) bytes) new
+    → is_fresh q.file.phase ≡ false → DriveEvent q (entry_of one (items ++ just_taken new.file.command new.file.phase) bytes) new
 drive_event_noted one items bytes q new after answered planned none before = record {
   after = after;
   answered = answers_noted items new.file.command new.file.phase bytes ∙ answered;
@@ -78,6 +82,6 @@ drive_event_noted one items bytes q new after answered planned none before = rec
 -- where one was just taken before, none is noted
 pub drive_event_unnoted : (one : Event) (items : List Item) (bytes : List ℕ) (q new : Physical) → new ≡ physical_event one q
     → answers_in items bytes ≡ answer_to one (seen q) → plan_in items ≡ plan_due one (seen q) → commands_in items ≡ []
-    → is_just_taken q.file.phase ≡ true → DriveEvent q (entry_of one items bytes) new
+    → is_fresh q.file.phase ≡ true → DriveEvent q (entry_of one items bytes) new
 drive_event_unnoted one items bytes q new after answered planned none before =
     record { after = after; answered = answered; planned = planned; commands = none ∙ rw before refl }

@@ -43,7 +43,8 @@ chosen_sectors true n p q one other = one
 chosen_sectors false n p q one other = other
 
 walk_sectors : (form : Form) (p : Plain) → (without_walk form p).device.sectors ≡ p.device.sectors
-walk_sectors form p = chosen_sectors (moves_by_bus form) p.device.sectors (record p { device = with_bus (walk_ended p.device.bus) p.device }) p refl refl
+walk_sectors form p = chosen_sectors (moves_by_bus form) p.device.sectors
+    (record p { device = with_bus (walk_ended p.device.bus) p.device }) p refl refl
 
 proceeded_sectors : (form : Form) (order : Request) (done : ℕ) (p : Plain) → (proceeded form order done p).device.sectors ≡ p.device.sectors
 proceeded_sectors NoMove order done p = refl
@@ -52,12 +53,14 @@ proceeded_sectors PioOut order done p =
     chosen_sectors (done == 0) p.device.sectors (first_wanted order p) (next_wanted order done p) refl
     (chosen_sectors (nat_lt done order.count) p.device.sectors (offered order done [] p) (ended p) refl refl)
 proceeded_sectors DmaIn order done p =
-    chosen_sectors (nat_lt done order.count) p.device.sectors (sector_given order done p) (transferred order p) refl (walk_sectors order.form p)
+    chosen_sectors (nat_lt done order.count) p.device.sectors (sector_given order done p) (transferred order p) refl
+    (walk_sectors order.form p)
 proceeded_sectors DmaOut order done p =
     chosen_sectors (nat_lt done order.count) p.device.sectors (walked order done p) (transferred order p) refl (walk_sectors order.form p)
 
 stepped_sectors : (phase : Phase) (p : Plain) → (stepped phase p).device.sectors ≡ p.device.sectors
-stepped_sectors Reset p = chosen_sectors (holds_reset p.device.file) p.device.sectors p (with_registers (reset_ended p.device.file) p) refl refl
+stepped_sectors Reset p = chosen_sectors (holds_reset p.device.file) p.device.sectors p
+    (with_registers (reset_ended p.device.file) p) refl refl
 stepped_sectors Idle p = refl
 stepped_sectors (Ready taken done left) p = refl
 stepped_sectors (Busy (Bad reason) done) p = refl
@@ -94,7 +97,8 @@ run_sectors start now [] run = ap (λ (q : Physical). q.sectors) run
 run_sectors start now (entry ∷ earlier) (before, run, last) =
     ap (λ (q : Physical). q.sectors) last.after ∙ event_sectors entry.event before ∙ run_sectors start before earlier run
 
-pub run_length : (start now : Physical) (entries : List Entry) → IsDriveRun start entries now → length now.kept.durable ≡ length start.kept.durable
+pub run_length : (start now : Physical) (entries : List Entry) → IsDriveRun start entries now
+    → length now.kept.durable ≡ length start.kept.durable
 run_length start now [] run = ap (λ (q : Physical). length q.kept.durable) run
 run_length start now (entry ∷ earlier) (before, run, last) =
     ap (λ (q : Physical). length q.kept.durable) last.after ∙ event_length entry.event before ∙ run_length start before earlier run

@@ -19,7 +19,8 @@ use Rattle.plain_run.proofs.Written.{IsAimed, step_aimed}
 use Rattle.plain_run.proofs.Sectors.{event_sectors, event_length}
 
 -- a change that writes such a value writes such a weaker one
-writes_weaker : (P Q : ℕ → List ℕ → Type 0) → ((s : ℕ) (value : List ℕ) → P s value → Q s value) → (change : Change) → Writes P change → Writes Q change
+writes_weaker : (P Q : ℕ → List ℕ → Type 0) → ((s : ℕ) (value : List ℕ) → P s value → Q s value) → (change : Change)
+    → Writes P change → Writes Q change
 writes_weaker P Q weaker leaves one = tt
 writes_weaker P Q weaker (writes s value) one = weaker s value one
 writes_weaker P Q weaker flushes one = tt
@@ -79,7 +80,8 @@ module _ (Q : ℕ → List ℕ → Type 0) (whole : (s : ℕ) (value : List ℕ)
 
 -- a drive at power-on over such durable values
 pub fresh_sound : (Q : ℕ → List ℕ → Type 0) (durable : List (List ℕ)) (room : ℕ) (memory : List ℕ)
-    → ((s : ℕ) → s < length durable → Q s (get_or durable s [])) → IsSound Q (physical_at_power_on (fresh room durable) (length durable) memory)
+    → ((s : ℕ) → s < length durable → Q s (get_or durable s []))
+    → IsSound Q (physical_at_power_on (fresh room durable) (length durable) memory)
 fresh_sound Q durable room memory all = record {
   lawful = power_lawful (cells_of (fresh room durable)) (length durable);
   count = refl;

@@ -33,18 +33,22 @@ answer_shared cells (event.ReadWords n) p = ap (λ words. bytes_of words ∷ [])
 answer_shared cells one p = refl
 
 -- words of Data read and written
-words_stand : (n : ℕ) (q : Physical) (p : Plain) → StandsFor q p → StandsFor (reached_by (event.ReadWords n) q) (accessed (event.ReadWords n) p)
+words_stand : (n : ℕ) (q : Physical) (p : Plain) → StandsFor q p
+    → StandsFor (reached_by (event.ReadWords n) q) (accessed (event.ReadWords n) p)
 unfolding after_words
 words_stand zero q p stands = stands
 words_stand (suc n) q p stands =
-    words_stand n (physical_accessed access.ReadWord q) (record p { device = after_read_word p.device }) (access_stands q p stands access.ReadWord)
+    words_stand n (physical_accessed access.ReadWord q) (record p { device = after_read_word p.device })
+    (access_stands q p stands access.ReadWord)
 
 written_stand : (words : List ℕ) (q : Physical) (p : Plain) → StandsFor q p
-    → StandsFor (keeping q.kept (record (seen q) { device = after_written words (seen q).device })) (record p { device = after_written words p.device })
+    → StandsFor (keeping q.kept (record (seen q) { device = after_written words (seen q).device }))
+    (record p { device = after_written words p.device })
 unfolding after_written
 written_stand [] q p stands = stands
 written_stand (w ∷ words) q p stands =
-    written_stand words (physical_accessed (access.WriteWord w) q) (record p { device = after_write_word w p.device }) (access_stands q p stands (access.WriteWord w))
+    written_stand words (physical_accessed (access.WriteWord w) q) (record p { device = after_write_word w p.device })
+    (access_stands q p stands (access.WriteWord w))
 
 memory_stands : (address : ℕ) (bytes : List ℕ) (q : Physical) (p : Plain) → StandsFor q p
     → StandsFor (reached_by (event.WriteMemory address bytes) q) (accessed (event.WriteMemory address bytes) p)
@@ -68,7 +72,8 @@ next (event.Drive s) new p = step_made s p
 next one new p = between one new p
 
 -- the physical drive stands for it
-next_stands : (one : Event) (q : Physical) (p : Plain) → StandsFor q p → StandsFor (physical_event one q) (next one (physical_event one q) p)
+next_stands : (one : Event) (q : Physical) (p : Plain) → StandsFor q p
+    → StandsFor (physical_event one q) (next one (physical_event one q) p)
 unfolding between next
 next_stands (event.Read8 r) q p stands = access_stands q p stands (access.Read8 r)
 next_stands (event.Write8 r v) q p stands = access_stands q p stands (access.Write8 r v)
@@ -78,7 +83,8 @@ next_stands (event.WritePointer v) q p stands = access_stands q p stands (access
 next_stands (event.WriteMemory address bytes) q p stands = memory_stands address bytes q p stands
 next_stands (event.Drive s) q p stands = step_stands q p stands s
 next_stands (event.Destage k) q p stands = destage_stands q p stands k
-next_stands event.Cut q p stands = subst (λ memory. StandsFor (physical_event event.Cut q) (drive_at_power_on q.kept.durable p.device.sectors (zeroed memory))) stands.memory (cut_stands q p stands (zeroed q.memory))
+next_stands event.Cut q p stands = subst (λ memory. StandsFor (physical_event event.Cut q)
+    (drive_at_power_on q.kept.durable p.device.sectors (zeroed memory))) stands.memory (cut_stands q p stands (zeroed q.memory))
 next_stands one q p stands = stands
 
 -- answers and commands are no part of a plan
@@ -89,7 +95,8 @@ follows (item.Bad ∷ items) old new goes = (goes.0, follows items (bad_step old
 follows (one ∷ items) old new goes = follows items old new goes
 
 -- a step's plan leads to where the step does
-step_follows : (s : Step) (p : Plain) (acting : Bool) → acts s p ≡ acting → FollowsPlan (if acting then step_item s ∷ [] else []) p (step_made s p)
+step_follows : (s : Step) (p : Plain) (acting : Bool) → acts s p ≡ acting
+    → FollowsPlan (if acting then step_item s ∷ [] else []) p (step_made s p)
 step_follows step.Good p true acting = (omega arith, (tt, acting), refl)
 step_follows step.Bad p true acting = (acting, refl)
 step_follows s p false idle = step_made_no s p idle
@@ -132,7 +139,9 @@ module _ (q : Physical) (p : Plain) (stands : StandsFor q p) where
           answered = one.answered ∙ ap (answer_to entry.event) (seen_as q p stands) ∙ answer_shared (cells_of q.kept) entry.event p;
           reached = reached entry.event;
           placed = λ still. plan ∙ placed entry.event p still;
-          followed = follows entry.items _ _ (subst (λ items. FollowsPlan items (between entry.event (physical_event entry.event q) p) (next entry.event (physical_event entry.event q) p)) (sym plan) (followed entry.event));
+          followed = follows entry.items _ _ (subst (λ items. FollowsPlan items
+              (between entry.event (physical_event entry.event q) p) (next entry.event (physical_event entry.event q) p))
+              (sym plan) (followed entry.event));
         };
         physical = one;
         cut = cut_next entry.event;
@@ -153,7 +162,8 @@ plain_event entry q new p stands one =
     })
 
 -- a whole run
-pub drives_run : (start : Plain) (physical now : Physical) (entries : List Entry) → StandsFor physical start → IsDriveRun physical entries now
+pub drives_run : (start : Plain) (physical now : Physical) (entries : List Entry) → StandsFor physical start
+    → IsDriveRun physical entries now
     → HasPlainRun start physical entries now
 drives_run start physical now [] stands run =
     let e : now ≡ physical = run in

@@ -43,14 +43,17 @@ came_within : (f : TaskFile) (b : Bus) (words n : ℕ) (order : Request) (done :
 came_within f b words n order done e is l = grind arith
 
 -- a sector that was moved whole has all its places
-found_aimed : (phase : Phase) (s : ℕ) (places memory : List ℕ) (last ended found : Bool) → (length places == 512) ≡ found → aims_in s phase ≡ true
-    → Writes (IsAimed phase) (change_moved (moved_as (found_as found last ended) (length places)) s (sector_after (moved_as (found_as found last ended) (length places)) places memory []))
+found_aimed : (phase : Phase) (s : ℕ) (places memory : List ℕ) (last ended found : Bool) → (length places == 512) ≡ found
+    → aims_in s phase ≡ true
+    → Writes (IsAimed phase) (change_moved (moved_as (found_as found last ended) (length places)) s
+    (sector_after (moved_as (found_as found last ended) (length places)) places memory []))
 found_aimed phase s places memory last ended true is aims = (length-map places (byte_at memory) ∙ eqb-true (length places) 512 is, aims)
 found_aimed phase s places memory last true false is aims = tt
 found_aimed phase s places memory last false false is aims = tt
 
 walk_aimed : (phase : Phase) (s : ℕ) (walk : Option ℕ) (pointer : ℕ) (memory : List ℕ) → aims_in s phase ≡ true
-    → Writes (IsAimed phase) (change_moved (outcome_in walk pointer memory) s (sector_after (outcome_in walk pointer memory) (places_in walk pointer memory) memory []))
+    → Writes (IsAimed phase) (change_moved (outcome_in walk pointer memory) s
+    (sector_after (outcome_in walk pointer memory) (places_in walk pointer memory) memory []))
 walk_aimed phase s None pointer memory aims = tt
 walk_aimed phase s (Some moved) pointer memory aims =
     let run = run_of pointer memory in
@@ -69,7 +72,8 @@ module _ (order : Request) (done : ℕ) (p : Plain) (e : p.device.file.phase ≡
       let some : done ≢ 0 = eqb-false done 0 at in
       let takes : takes_words order.form ≡ true = ap takes_words is in
       let came = came_within p.device.file p.device.bus (length p.device.block) p.device.sectors order done e is l in (
-        block_bytes p.device.block (block_whole p.device.file p.device.bus (length p.device.block) p.device.sectors order done e takes some l),
+        block_bytes p.device.block (block_whole p.device.file p.device.bus (length p.device.block) p.device.sectors order done e
+            takes some l),
         aims_within (order.first + (done - 1)) (ap is_outward is) (within_range order.first order.count (done - 1) (omega arith)),
       )
 
@@ -95,7 +99,8 @@ module _ (order : Request) (done : ℕ) (p : Plain) (e : p.device.file.phase ≡
   proceeded_aimed DmaIn is = tt
   proceeded_aimed DmaOut is = moved_aimed is (nat_lt done order.count) refl
 
-stepped_aimed : (phase : Phase) (p : Plain) → p.device.file.phase ≡ phase → IsLawful p.device → Writes (IsAimed p.device.file.phase) (change_in phase p)
+stepped_aimed : (phase : Phase) (p : Plain) → p.device.file.phase ≡ phase → IsLawful p.device
+    → Writes (IsAimed p.device.file.phase) (change_in phase p)
 stepped_aimed Reset p e l = tt
 stepped_aimed Idle p e l = tt
 stepped_aimed (Ready order done left) p e l = tt

@@ -1,4 +1,5 @@
--- An event with what the report says of it, and the text of reports. Lists of entries have the newest first.
+-- An event with what the report says of it, and the text of reports. Lists of entries have the
+-- newest first.
 use Rattle.std.specs.Prelude.{ℕ, ◌+◌, ◌++◌, List, [], ◌∷◌, length}
 use Rattle.schedule_text.specs.declared.Event.{Event}
 use Rattle.schedule_text.specs.declared.Item.{Item}
@@ -24,7 +25,8 @@ items_text number (one ∷ items) bytes = line_text number one bytes ++ items_te
 -- the report's lines for all events; an event's number is that of its line, from 1 on
 abbrev pub history_text : List Entry → List ℕ
 history_text [] = []
-history_text (entry ∷ earlier) = history_text earlier ++ items_text (length earlier + 1) entry.items entry.bytes
+history_text (entry ∷ earlier) =
+    history_text earlier ++ items_text (length earlier + 1) entry.items entry.bytes
 
 -- a whole report
 abbrev pub report_text : List Entry → List ℕ
@@ -52,7 +54,8 @@ commands_in [] = []
 commands_in (item.Answer ∷ items) = commands_in items
 commands_in (item.Go n ∷ items) = commands_in items
 commands_in (item.Bad ∷ items) = commands_in items
-commands_in (item.Command byte first count ∷ items) = item.Command byte first count ∷ commands_in items
+commands_in (item.Command byte first count ∷ items) =
+    item.Command byte first count ∷ commands_in items
 
 -- an event with its items and its answer
 abbrev pub entry_of : Event → List Item → List ℕ → Entry

@@ -20,7 +20,8 @@ use Rattle.plain_run.specs.Entry.{Entry, answers_in, plan_in}
 abbrev pub memory_read : ℕ → ℕ → List ℕ → List ℕ
 memory_read address n memory = map (byte_at memory) (range_with_len address n)
 
--- memory after these bytes were written from an address on; what is outside of it goes nowhere (own)
+-- memory after these bytes were written from an address on; what is outside of it goes nowhere
+-- (own)
 abbrev pub memory_written : ℕ → List ℕ → List ℕ → List ℕ
 memory_written address bytes memory = scattered (range_with_len address (length bytes)) bytes memory
 
@@ -46,7 +47,8 @@ answer_to event.End p = []
 abbrev pub with_device : Device → Plain → Plain
 with_device d p = record p { device = d }
 
--- the plain drive after a guest's event; no other event reaches it but by the plan, or by a power cut
+-- the plain drive after a guest's event; no other event reaches it but by the plan, or by a power
+-- cut
 abbrev pub accessed : Event → Plain → Plain
 accessed (event.Read8 r) p = with_device (after_read8 r p.device) p
 accessed (event.Write8 r v) p = with_device (after_write8 r v p.device) p
@@ -55,7 +57,8 @@ accessed (event.WriteWords bytes) p = with_device (after_written (words_of bytes
 accessed event.ReadPointer p = p
 accessed (event.WritePointer v) p = with_device (after_write_pointer v p.device) p
 accessed (event.ReadMemory address n) p = p
-accessed (event.WriteMemory address bytes) p = record p { memory = memory_written address bytes p.memory }
+accessed (event.WriteMemory address bytes) p =
+    record p { memory = memory_written address bytes p.memory }
 accessed event.Line p = p
 accessed (event.Drive s) p = p
 accessed (event.Destage k) p = p
@@ -81,7 +84,8 @@ zeroed memory = replicate (length memory) 0
 abbrev pub restarted : List (List ℕ) → Plain → Plain
 restarted outcome p = drive_at_power_on outcome p.device.sectors (zeroed p.memory)
 
--- an event leads a plain drive from old to new, but for its plan: after a cut it begins with a cut outcome
+-- an event leads a plain drive from old to new, but for its plan: after a cut it begins with a cut
+-- outcome
 abbrev pub Reaches : Bool → Event → Plain → Plain → Type 0
 Reaches true one old new = (outcome : List (List ℕ)) × IsOutcome old.device.cells outcome
     × (new ≡ restarted outcome old)
@@ -101,8 +105,10 @@ AllAct (suc n) p = AllAct n p × (acts step.Good (went n p) ≡ true)
 abbrev pub FollowsPlan : List Item → Plain → Plain → Type 0
 FollowsPlan [] old new = new ≡ old
 FollowsPlan (item.Answer ∷ items) old new = FollowsPlan items old new
-FollowsPlan (item.Go n ∷ items) old new = (1 ≤ n) × AllAct n old × FollowsPlan items (went n old) new
-FollowsPlan (item.Bad ∷ items) old new = (acts step.Bad old ≡ true) × FollowsPlan items (bad_step old) new
+FollowsPlan (item.Go n ∷ items) old new =
+    (1 ≤ n) × AllAct n old × FollowsPlan items (went n old) new
+FollowsPlan (item.Bad ∷ items) old new =
+    (acts step.Bad old ≡ true) × FollowsPlan items (bad_step old) new
 FollowsPlan (item.Command byte first count ∷ items) old new = FollowsPlan items old new
 
 -- one event: its answer is the plain drive's, and then the plain drive follows the reported plan

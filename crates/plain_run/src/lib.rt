@@ -19,8 +19,8 @@ ghost use Rattle.plain_run.specs.Written.{is_named};
 
 /// A remark gets no answer and no plan line, and leaves the drive as it is.
 pub fn a_remark_changes_nothing()
-    ensures { (old new : Plain) (entry : Entry) → entry.event ≡ Remark → PlainEvent old entry new
-        → new ≡ old }
+    ensures { (old new : Plain) (entry : Entry) → entry.event ≡ Remark
+        → PlainEvent old entry new → new ≡ old }
 {}
 
 /// Each run of a physical drive that stands for a plain one is, with the same entries, a plain run beside it: its

@@ -16,29 +16,44 @@ use Rattle.schedule_text.proofs.Hex.{told_bytes, told_bytes-hex_text, told_long,
 
 -- the register that two bytes name
 abbrev named : ℕ → ℕ → Reg
-named first last = if first == 101 then reg.Error else if first == 100 then reg.Device else if first == 97 then reg.Alternate else if first == 115 then (if last == 99 then reg.Count else reg.Status) else if first == 108 then (if last == 108 then reg.Low else if last == 109 then reg.Mid else reg.High) else if last == 99 then reg.BusCommand else reg.BusStatus
+named first last = if first == 101 then reg.Error else if first == 100 then reg.Device else if first == 97 then reg.Alternate
+    else if first == 115 then (if last == 99 then reg.Count else reg.Status)
+    else if first == 108 then (if last == 108 then reg.Low else if last == 109 then reg.Mid else reg.High)
+    else if last == 99 then reg.BusCommand else reg.BusStatus
 
 -- the event of a line that reads
 abbrev told_read : List ℕ → Event
-told_read line = if get_or line 3 0 == 56 then event.Read8 (named (get_or line 5 0) (get_or line 6 0)) else if get_or line 3 0 == 100 then event.ReadWords (digits_value 10 (drop 5 line)) else event.ReadPointer
+told_read line = if get_or line 3 0 == 56 then event.Read8 (named (get_or line 5 0) (get_or line 6 0))
+    else if get_or line 3 0 == 100 then event.ReadWords (digits_value 10 (drop 5 line)) else event.ReadPointer
+
+-- and of one that writes a register
+abbrev told_write_byte : List ℕ → Event
+told_write_byte line =
+    event.Write8 (named (get_or line 5 0) (get_or line 6 0)) (byte_value (get_or line 8 0) (get_or line 9 0))
 
 -- and of one that writes
 abbrev told_write : List ℕ → Event
-told_write line = if get_or line 3 0 == 56 then event.Write8 (named (get_or line 5 0) (get_or line 6 0)) (byte_value (get_or line 8 0) (get_or line 9 0)) else if get_or line 3 0 == 100 then event.WriteWords (told_bytes (drop 5 line)) else event.WritePointer (told_long (drop 6 line))
+told_write line =
+    if get_or line 3 0 == 56 then told_write_byte line
+    else if get_or line 3 0 == 100 then event.WriteWords (told_bytes (drop 5 line)) else event.WritePointer (told_long (drop 6 line))
 
 -- and of one about the guest's memory
 abbrev told_memory : List ℕ → Event
-told_memory line = if get_or line 3 0 == 114 then event.ReadMemory (told_long (drop 5 line)) (digits_value 10 (drop 14 line)) else event.WriteMemory (told_long (drop 5 line)) (told_bytes (drop 14 line))
+told_memory line = if get_or line 3 0 == 114 then event.ReadMemory (told_long (drop 5 line)) (digits_value 10 (drop 14 line))
+    else event.WriteMemory (told_long (drop 5 line)) (told_bytes (drop 14 line))
 
 abbrev told_access : List ℕ → Event
-told_access line = if get_or line 2 0 == 114 then told_read line else if get_or line 2 0 == 119 then told_write line else if get_or line 2 0 == 109 then told_memory line else event.Line
+told_access line = if get_or line 2 0 == 114 then told_read line else if get_or line 2 0 == 119 then told_write line
+    else if get_or line 2 0 == 109 then told_memory line else event.Line
 
 abbrev told_act : List ℕ → Event
-told_act line = if get_or line 2 0 == 111 then event.Drive step.Good else if get_or line 2 0 == 98 then event.Drive step.Bad else event.Destage (digits_value 10 (drop 6 line))
+told_act line = if get_or line 2 0 == 111 then event.Drive step.Good else if get_or line 2 0 == 98 then event.Drive step.Bad
+    else event.Destage (digits_value 10 (drop 6 line))
 
 -- the event of a line, where it says one
 abbrev pub told : List ℕ → Event
-told line = if get_or line 0 0 == 103 then told_access line else if get_or line 0 0 == 100 then told_act line else if get_or line 0 0 == 99 then event.Cut else if get_or line 0 0 == 101 then event.End else event.Remark
+told line = if get_or line 0 0 == 103 then told_access line else if get_or line 0 0 == 100 then told_act line
+    else if get_or line 0 0 == 99 then event.Cut else if get_or line 0 0 == 101 then event.End else event.Remark
 
 -- a register's name has two bytes, and they tell it
 name_is : (r : Reg) → register_text r ≡ get_or (register_text r) 0 0 ∷ get_or (register_text r) 1 0 ∷ []
@@ -48,7 +63,9 @@ named-register_text : (r : Reg) → named (get_or (register_text r) 0 0) (get_or
 named-register_text r = grind arith
 
 told_write8 : (r : Reg) (v : ℕ) → v < 256 → told (codes "g w8 " ++ register_text r ++ 32 ∷ hex_byte v) ≡ event.Write8 r v
-told_write8 r v small = ap (λ (name : List ℕ). told (codes "g w8 " ++ name ++ 32 ∷ hex_byte v)) (name_is r) ∙ ap (λ (q : Reg). event.Write8 q (byte_value (get_or (hex_byte v) 0 0) (get_or (hex_byte v) 1 0))) (named-register_text r) ∙ ap (event.Write8 r) (byte_value-hex_byte v small)
+told_write8 r v small = ap (λ (name : List ℕ). told (codes "g w8 " ++ name ++ 32 ∷ hex_byte v)) (name_is r) ∙
+    ap (λ (q : Reg). event.Write8 q (byte_value (get_or (hex_byte v) 0 0) (get_or (hex_byte v) 1 0))) (named-register_text r) ∙
+    ap (event.Write8 r) (byte_value-hex_byte v small)
 
 told_remark : (line : List ℕ) → IsTextOf event.Remark line → told line ≡ event.Remark
 told_remark [] (note, short) = refl
@@ -65,8 +82,12 @@ told_said line (event.ReadWords n) (range, is) = ap told is ∙ ap event.ReadWor
 told_said line (event.WriteWords bytes) (range, is) = ap told is ∙ ap event.WriteWords (told_bytes-hex_text bytes range.0.0)
 told_said line event.ReadPointer (range, is) = ap told is
 told_said line (event.WritePointer v) (small, is) = ap told is ∙ ap event.WritePointer (told_pointer v small)
-told_said line (event.ReadMemory a n) (range, is) = ap told is ∙ ap (λ (b : ℕ). event.ReadMemory b (digits_value 10 (decimal n))) (told_long-hex_long a (32 ∷ decimal n) range.0) ∙ ap (event.ReadMemory a) (decimal_told n (omega arith)).1
-told_said line (event.WriteMemory a bytes) (range, is) = ap told is ∙ ap (λ (b : ℕ). event.WriteMemory b (told_bytes (hex_text bytes))) (told_long-hex_long a (32 ∷ hex_text bytes) range.0) ∙ ap (event.WriteMemory a) (told_bytes-hex_text bytes range.1.0)
+told_said line (event.ReadMemory a n) (range, is) = ap told is ∙
+    ap (λ (b : ℕ). event.ReadMemory b (digits_value 10 (decimal n))) (told_long-hex_long a (32 ∷ decimal n) range.0) ∙
+    ap (event.ReadMemory a) (decimal_told n (omega arith)).1
+told_said line (event.WriteMemory a bytes) (range, is) = ap told is ∙
+    ap (λ (b : ℕ). event.WriteMemory b (told_bytes (hex_text bytes))) (told_long-hex_long a (32 ∷ hex_text bytes) range.0) ∙
+    ap (event.WriteMemory a) (told_bytes-hex_text bytes range.1.0)
 told_said line event.Line (range, is) = ap told is
 told_said line (event.Drive step.Good) (range, is) = ap told is
 told_said line (event.Drive step.Bad) (range, is) = ap told is
@@ -82,12 +103,25 @@ says_once line a b said other = sym (told_said line a said) ∙ told_said line b
 -- a line that says an event isn't long
 pub says_short : (line : List ℕ) (e : Event) → Says line e → length line ≤ LINE_BYTES
 says_short line (event.Read8 r) (range, is) = omega (arith, ap length is, ap length (name_is r))
-says_short line (event.Write8 r v) (range, is) = omega (arith, ap length is, length-append (register_text r) (32 ∷ hex_byte v), ap length (name_is r))
-says_short line (event.ReadWords n) (range, is) = omega (arith, ap length is, length-decimal-le 3 n (omega arith) (omega arith) (omega arith))
+says_short line (event.Write8 r v) (range, is) = omega (
+  arith,
+  ap length is,
+  length-append (register_text r) (32 ∷ hex_byte v),
+  ap length (name_is r),
+)
+says_short line (event.ReadWords n) (range, is) = omega (
+  arith,
+  ap length is,
+  length-decimal-le 3 n (omega arith) (omega arith) (omega arith),
+)
 says_short line (event.WriteWords bytes) (range, is) = omega (arith, ap length is, length-hex_text bytes)
 says_short line event.ReadPointer (range, is) = omega (arith, ap length is)
 says_short line (event.WritePointer v) (range, is) = omega (arith, ap length is)
-says_short line (event.ReadMemory a n) (range, is) = omega (arith, ap length is, length-decimal-le 4 n (omega arith) (omega arith) (omega arith))
+says_short line (event.ReadMemory a n) (range, is) = omega (
+  arith,
+  ap length is,
+  length-decimal-le 4 n (omega arith) (omega arith) (omega arith),
+)
 says_short line (event.WriteMemory a bytes) (range, is) = omega (arith, ap length is, length-hex_text bytes)
 says_short line event.Line (range, is) = omega (arith, ap length is)
 says_short line (event.Drive step.Good) (range, is) = omega (arith, ap length is)
@@ -104,7 +138,8 @@ range_told line e text said is = subst IsInRange (sym (told_said line e said) �
 -- a line that says an event isn't out of range
 pub says_in_range : (line : List ℕ) (e : Event) → Says line e → ¬ IsOutOfRange line
 says_in_range line e said (short, inl (text, is, beyond)) = beyond.1 (range_told line e (codes "g rd " ++ text) said is)
-says_in_range line e said (short, inr (inl (a, text, small, is, beyond))) = let range = range_told line e (codes "g mr " ++ hex_long a ++ 32 ∷ text) said is in beyond.1 (range.1, range.2)
+says_in_range line e said (short, inr (inl (a, text, small, is, beyond))) = let range =
+    range_told line e (codes "g mr " ++ hex_long a ++ 32 ∷ text) said is in beyond.1 (range.1, range.2)
 says_in_range line e said (short, inr (inr (text, is, beyond))) = beyond.1 (omega arith, range_told line e (codes "d put " ++ text) said is)
 
 -- the answer to a line: what it says, or its fault

@@ -41,7 +41,8 @@ told_bytes (high ∷ low ∷ rest) = byte_value high low ∷ told_bytes rest
 
 pub told_bytes-front : (bytes rest : List ℕ) → AreBytes bytes → told_bytes (hex_text bytes ++ rest) ≡ bytes ++ told_bytes rest
 told_bytes-front [] rest all = refl
-told_bytes-front (b ∷ bytes) rest all = ap₂ (λ (x : ℕ) (xs : List ℕ). x ∷ xs) (byte_value-hex_byte b all.0) (told_bytes-front bytes rest all.1)
+told_bytes-front (b ∷ bytes) rest all = ap₂ (λ (x : ℕ) (xs : List ℕ). x ∷ xs) (byte_value-hex_byte b all.0)
+    (told_bytes-front bytes rest all.1)
 
 pub told_bytes-hex_text : (bytes : List ℕ) → AreBytes bytes → told_bytes (hex_text bytes) ≡ bytes
 told_bytes-hex_text bytes all = ap told_bytes (sym (append-nil (hex_text bytes))) ∙ told_bytes-front bytes [] all ∙ append-nil bytes
@@ -59,7 +60,8 @@ some_bytes [] text rest is nothing some = absurd (some (ap length is ∙ nothing
 some_bytes (x ∷ xs) text rest is nothing some = omega arith
 
 -- what follows the text of bytes within the text of more
-pub after_text : (xs bytes rest : List ℕ) → AreBytes xs → AreBytes bytes → hex_text xs ++ rest ≡ hex_text bytes → (more : List ℕ) × AreBytes more × (bytes ≡ xs ++ more) × (rest ≡ hex_text more)
+pub after_text : (xs bytes rest : List ℕ) → AreBytes xs → AreBytes bytes → hex_text xs ++ rest ≡ hex_text bytes
+    → (more : List ℕ) × AreBytes more × (bytes ≡ xs ++ more) × (rest ≡ hex_text more)
 after_text [] bytes rest here there e = (bytes, there, refl, e)
 after_text (x ∷ xs) [] rest here there e = absurd cc
 after_text (x ∷ xs) (b ∷ bytes) rest here there e =
@@ -71,7 +73,8 @@ none : (xs all more : List ℕ) → all ≡ xs ++ more → length all ≤ length
 none xs all [] is few = refl
 none xs all (b ∷ more) is few = absurd (omega (arith, ap length is, length-append xs (b ∷ more)))
 
-no_more : (more rest : List ℕ) → AreBytes more → rest ≢ [] → ((v : ℕ) (t : List ℕ) → v < 256 → rest ≢ hex_byte v ++ t) → rest ≢ hex_text more
+no_more : (more rest : List ℕ) → AreBytes more → rest ≢ [] → ((v : ℕ) (t : List ℕ) → v < 256 → rest ≢ hex_byte v ++ t)
+    → rest ≢ hex_text more
 no_more [] rest bytes some other e = some e
 no_more (b ∷ more) rest bytes some other e = other b (hex_text more) bytes.0 e
 
@@ -83,19 +86,22 @@ AreBytes-push (x ∷ xs) b all small = (all.0, AreBytes-push xs b all.1 small)
 pub more_bytes : (xs new : List ℕ) (b : ℕ) → AreBytes xs → b < 256 → new ≡ xs ++ b ∷ [] → AreBytes new
 more_bytes xs new b all small is = subst AreBytes (sym is) (AreBytes-push xs b all small)
 
-pub more_text : (xs new text rest after : List ℕ) (b : ℕ) → text ≡ hex_text xs ++ rest → rest ≡ hex_byte b ++ after → new ≡ xs ++ b ∷ [] → text ≡ hex_text new ++ after
+pub more_text : (xs new text rest after : List ℕ) (b : ℕ) → text ≡ hex_text xs ++ rest → rest ≡ hex_byte b ++ after
+    → new ≡ xs ++ b ∷ [] → text ≡ hex_text new ++ after
 more_text xs new text rest after b is goes more =
     is ∙ ap (λ (z : List ℕ). hex_text xs ++ z) goes ∙ sym (append_assoc (hex_text xs) (hex_byte b) after)
     ∙ ap (λ (z : List ℕ). z ++ after) (sym (flat_map-append hex_byte xs (b ∷ [])) ∙ ap hex_text (sym more))
 
 -- text that goes on behind so many bytes has more
-pub too_many : (xs rest all : List ℕ) (most : ℕ) → AreBytes xs → AreBytes all → rest ≢ [] → length xs ≡ most → length all ≤ most → hex_text xs ++ rest ≢ hex_text all
+pub too_many : (xs rest all : List ℕ) (most : ℕ) → AreBytes xs → AreBytes all → rest ≢ [] → length xs ≡ most → length all ≤ most
+    → hex_text xs ++ rest ≢ hex_text all
 too_many xs rest all most here there some full few e =
     let (more, bytes, is, goes) = after_text xs all rest here there e in
     some (goes ∙ ap hex_text (none xs all more is (omega arith)))
 
 -- text that goes on otherwise isn't that of bytes
-pub no_bytes : (xs rest all : List ℕ) → AreBytes xs → AreBytes all → rest ≢ [] → ((v : ℕ) (t : List ℕ) → v < 256 → rest ≢ hex_byte v ++ t) → hex_text xs ++ rest ≢ hex_text all
+pub no_bytes : (xs rest all : List ℕ) → AreBytes xs → AreBytes all → rest ≢ []
+    → ((v : ℕ) (t : List ℕ) → v < 256 → rest ≢ hex_byte v ++ t) → hex_text xs ++ rest ≢ hex_text all
 no_bytes xs rest all here there some other e =
     let (more, bytes, is, goes) = after_text xs all rest here there e in
     no_more more rest bytes some other goes
@@ -108,7 +114,8 @@ long_bytes : (v : ℕ) → AreBytes (to_be_bytes w32 v)
 long_bytes v = (omega arith, (omega arith, (omega arith, (omega arith, tt))))
 
 pub told_long-hex_long : (v : ℕ) (rest : List ℕ) → v < 2 ^ 32 → told_long (hex_long v ++ rest) ≡ v
-told_long-hex_long v rest small = ap (from_be_bytes w32) (told_bytes-front (to_be_bytes w32 v) rest (long_bytes v)) ∙ from_be_bytes-to_be_bytes_4 v small
+told_long-hex_long v rest small = ap (from_be_bytes w32) (told_bytes-front (to_be_bytes w32 v) rest (long_bytes v)) ∙
+    from_be_bytes-to_be_bytes_4 v small
 
 small : (a b c d : ℕ) → a < 256 → b < 256 → c < 256 → d < 256 → (i : ℕ) → get_or (a ∷ b ∷ c ∷ d ∷ []) i 0 < 256
 small a b c d first second third fourth zero = first
@@ -118,12 +125,17 @@ small a b c d first second third fourth (suc (suc (suc zero))) = fourth
 small a b c d first second third fourth (suc (suc (suc (suc i)))) = omega arith
 
 -- four bytes in hexadecimal are the text of their number
-pub long_told : (a b c d v : ℕ) → a < 256 → b < 256 → c < 256 → d < 256 → v ≡ from_be_bytes w32 (a ∷ b ∷ c ∷ d ∷ []) → hex_long v ≡ hex_text (a ∷ b ∷ c ∷ d ∷ [])
-long_told a b c d v first second third fourth is = ap hex_text (be_bytes_4 (a ∷ b ∷ c ∷ d ∷ []) v refl (small a b c d first second third fourth) is)
+pub long_told : (a b c d v : ℕ) → a < 256 → b < 256 → c < 256 → d < 256 → v ≡ from_be_bytes w32 (a ∷ b ∷ c ∷ d ∷ [])
+    → hex_long v ≡ hex_text (a ∷ b ∷ c ∷ d ∷ [])
+long_told a b c d v first second third fourth is = ap hex_text (be_bytes_4 (a ∷ b ∷ c ∷ d ∷ []) v refl
+    (small a b c d first second third fourth) is)
 
-pub long_front : (a b c d v : ℕ) (text r s t rest : List ℕ) → a < 256 → b < 256 → c < 256 → d < 256 → v ≡ from_be_bytes w32 (a ∷ b ∷ c ∷ d ∷ []) → text ≡ hex_byte a ++ r → r ≡ hex_byte b ++ s → s ≡ hex_byte c ++ t → t ≡ hex_byte d ++ rest → text ≡ hex_long v ++ rest
+pub long_front : (a b c d v : ℕ) (text r s t rest : List ℕ) → a < 256 → b < 256 → c < 256 → d < 256
+    → v ≡ from_be_bytes w32 (a ∷ b ∷ c ∷ d ∷ []) → text ≡ hex_byte a ++ r → r ≡ hex_byte b ++ s → s ≡ hex_byte c ++ t
+    → t ≡ hex_byte d ++ rest → text ≡ hex_long v ++ rest
 long_front a b c d v text r s t rest first second third fourth is one two three four =
-    one ∙ ap (λ (z : List ℕ). hex_byte a ++ z) (two ∙ ap (λ (z : List ℕ). hex_byte b ++ z) (three ∙ ap (λ (z : List ℕ). hex_byte c ++ z) four))
+    one ∙ ap (λ (z : List ℕ). hex_byte a ++ z) (two ∙ ap (λ (z : List ℕ). hex_byte b ++ z)
+    (three ∙ ap (λ (z : List ℕ). hex_byte c ++ z) four))
     ∙ ap (λ (z : List ℕ). z ++ rest) (sym (long_told a b c d v first second third fourth is))
 
 -- how long text is

@@ -28,7 +28,8 @@ same [] [] s t x y long here there e = (refl, rw (here, there) at e)
 same [] (q ∷ b) s t x y long here there e = absurd (omega arith)
 same (p ∷ a) [] s t x y long here there e = absurd (omega arith)
 same (p ∷ a) (q ∷ b) s t x y long (before, l, lines, one, says, is) (front, m, others, other, said, was) e =
-    let text : before ++ (l ++ 10 ∷ x) ≡ front ++ (m ++ 10 ∷ y) = sym (joined before l x) ∙ sym (ap (λ z. z ++ x) is) ∙ e ∙ ap (λ z. z ++ y) was ∙ joined front m y in
+    let text : before ++ (l ++ 10 ∷ x) ≡ front ++ (m ++ 10 ∷ y) = sym (joined before l x) ∙ sym (ap (λ z. z ++ x) is) ∙ e ∙
+    ap (λ z. z ++ y) was ∙ joined front m y in
     let back = same a b before front (l ++ 10 ∷ x) (m ++ 10 ∷ y) (omega arith) lines others text in
     let line = line_once l m x y one other back.1 in
     let event = says_once m p q (subst (λ z. Says z p) line.0 says) said in
@@ -45,16 +46,37 @@ record GoesOn (left : List ℕ) (events more : List Event) : Type 0 where
   left_is : left ≡ line ++ 10 ∷ rest
   more_is : more ≡ newer ++ said ∷ events
 
-one_more : (a b : List Event) (q : Event) (m x y : List ℕ) → IsOneLine m → Says m q → ((a ≡ b) × (x ≡ m ++ 10 ∷ y)) ⊎ GoesOn x a b → GoesOn x a (q ∷ b)
-one_more a b q m x y one says (inl (is, left)) = record { line = m; rest = y; said = q; newer = []; one = one; says = says; left_is = left; more_is = ap (λ z. q ∷ z) (sym is) }
-one_more a b q m x y one says (inr on) = record { line = on.line; rest = on.rest; said = on.said; newer = q ∷ on.newer; one = on.one; says = on.says; left_is = on.left_is; more_is = ap (λ z. q ∷ z) on.more_is }
+one_more : (a b : List Event) (q : Event) (m x y : List ℕ) → IsOneLine m → Says m q → ((a ≡ b) × (x ≡ m ++ 10 ∷ y)) ⊎ GoesOn x a b
+    → GoesOn x a (q ∷ b)
+one_more a b q m x y one says (inl (is, left)) = record {
+  line = m;
+  rest = y;
+  said = q;
+  newer = [];
+  one = one;
+  says = says;
+  left_is = left;
+  more_is = ap (λ z. q ∷ z) (sym is);
+}
+one_more a b q m x y one says (inr on) = record {
+  line = on.line;
+  rest = on.rest;
+  said = on.said;
+  newer = q ∷ on.newer;
+  one = on.one;
+  says = on.says;
+  left_is = on.left_is;
+  more_is = ap (λ z. q ∷ z) on.more_is;
+}
 
 -- the lines of one text, no more of them here than there
-lines_meet : (a b : List Event) (s t x y : List ℕ) → length a ≤ length b → HasLines s a → HasLines t b → s ++ x ≡ t ++ y → ((a ≡ b) × (x ≡ y)) ⊎ GoesOn x a b
+lines_meet : (a b : List Event) (s t x y : List ℕ) → length a ≤ length b → HasLines s a → HasLines t b → s ++ x ≡ t ++ y
+    → ((a ≡ b) × (x ≡ y)) ⊎ GoesOn x a b
 lines_meet a [] s t x y few here there e = inl (same a [] s t x y (omega arith) here there e)
 lines_meet a (q ∷ b) s t x y few here (front, m, others, other, said, was) e = elim (cases_lt (length b) (length a)) [
   | inl all ↦ inl (same a (q ∷ b) s t x y (omega arith) here (front, m, others, other, said, was) e)
-  | inr fewer ↦ inr (one_more a b q m x y other said (lines_meet a b s front x (m ++ 10 ∷ y) fewer here others (e ∙ ap (λ z. z ++ y) was ∙ joined front m y)))
+  | inr fewer ↦ inr (one_more a b q m x y other said (lines_meet a b s front x (m ++ 10 ∷ y) fewer here others
+      (e ∙ ap (λ z. z ++ y) was ∙ joined front m y)))
 ]
 
 -- what is left begins with a line, whose event follows these events among more
@@ -84,26 +106,31 @@ last_byte (c ∷ xs) (d ∷ ys) x y e = last_byte xs ys x y cc
 -- whole lines don't end in a line without its line feed
 whole_lines : (events : List Event) (text : List ℕ) → HasLines text events → ¬ IsCutOff text
 whole_lines [] text lines (front, last, other, is) = some_bytes front [] last (sym is ∙ lines)
-whole_lines (one ∷ earlier) text (before, line, lines, single, says, whole) (front, last, other, is) = other (last_byte front (before ++ line) last 10 (sym is ∙ whole))
+whole_lines (one ∷ earlier) text (before, line, lines, single, says, whole) (front, last, other, is) =
+    other (last_byte front (before ++ line) last 10 (sym is ∙ whole))
 
 -- the same with a line feed at the end of the text
-follows_cut : (text s left : List ℕ) (events more : List Event) → HasLines s events → text ≡ s ++ left → IsCutOff text → GoesOn (left ++ 10 ∷ []) events more → Follows left events more
+follows_cut : (text s left : List ℕ) (events more : List Event) → HasLines s events → text ≡ s ++ left → IsCutOff text
+    → GoesOn (left ++ 10 ∷ []) events more → Follows left events more
 follows_cut text s left events more lines is cut on = record {
   said = on.said;
   newer = on.newer;
   some = λ none. whole_lines events s lines (subst IsCutOff (is ∙ ap (λ z. s ++ z) none ∙ append-nil s) cut);
-  says = subst (λ z. Says z on.said) (sym (sym (first_line-feed left) ∙ ap first_line on.left_is ∙ first_line-line on.line on.rest on.one)) on.says;
+  says = subst (λ z. Says z on.said) (sym (sym (first_line-feed left) ∙ ap first_line on.left_is ∙
+      first_line-line on.line on.rest on.one)) on.says;
   more_is = on.more_is;
 }
 
 -- two readings of one text, with no more events here than there
-both_read : (text x y : List ℕ) (a b : List Event) → length a ≤ length b → HasRead text x a → HasRead text y b → ((a ≡ b) × (x ≡ y)) ⊎ Follows x a b
+both_read : (text x y : List ℕ) (a b : List Event) → length a ≤ length b → HasRead text x a → HasRead text y b
+    → ((a ≡ b) × (x ≡ y)) ⊎ Follows x a b
 both_read text x y a b few (s, here, inl is) (t, there, inl was) = elim (lines_meet a b s t x y few here there (sym is ∙ was)) [
   | inl all ↦ inl all
   | inr on ↦ inr (follows x a b on)
 ]
 both_read text x y a b few (s, here, inl is) (t, there, inr (none, was, cut)) =
-    let e : s ++ (x ++ 10 ∷ []) ≡ t ++ [] = sym (append_assoc s x (10 ∷ [])) ∙ ap (λ z. z ++ 10 ∷ []) (sym is) ∙ sym was ∙ sym (append-nil t) in
+    let e : s ++ (x ++ 10 ∷ []) ≡ t ++ [] = sym (append_assoc s x (10 ∷ [])) ∙ ap (λ z. z ++ 10 ∷ []) (sym is) ∙ sym was ∙
+    sym (append-nil t) in
     elim (lines_meet a b s t (x ++ 10 ∷ []) [] few here there e) [
       | inl all ↦ absurd (some_bytes x [] 10 all.1)
       | inr on ↦ inr (follows_cut text s x a b here is cut on)
@@ -141,7 +168,8 @@ due_behind (one ∷ newer) said events (inl end) = due_before (said ∷ []) even
 due_behind (one ∷ newer) said events (inr goes_on) = due_before (said ∷ []) events (due_before (one ∷ newer) (said ∷ events) goes_on)
 
 -- and behind one that isn't `end`
-due_still : (newer : List Event) (said : Event) (events : List Event) → said ≢ event.End → Begins (newer ++ said ∷ events) → MayGoOn (said ∷ events)
+due_still : (newer : List Event) (said : Event) (events : List Event) → said ≢ event.End → Begins (newer ++ said ∷ events)
+    → MayGoOn (said ∷ events)
 due_still [] said events other (inl end) = absurd (other end.0)
 due_still [] said events other (inr goes_on) = goes_on
 due_still (one ∷ newer) said events other (inl end) = due_before newer (said ∷ events) end.1
@@ -156,10 +184,13 @@ fails_begins fault.Number number events left fails = inr fails.goes_on
 fails_begins fault.TooMany number events left fails = inr fails.goes_on
 
 -- where a schedule fails, it doesn't go on
-fails_here : (kind : LineFault) (number : ℕ) (events more : List Event) (left : List ℕ) → FailsWith kind number events left → length events + 1 ≡ number → Begins more → ¬ Follows left events more
+fails_here : (kind : LineFault) (number : ℕ) (events more : List Event) (left : List ℕ) → FailsWith kind number events left
+    → length events + 1 ≡ number → Begins more → ¬ Follows left events more
 fails_here fault.NoEnd number events more left fails next begins on = on.some fails.1
-fails_here fault.Trailing number events more left fails next begins on = ended events fails.0 (due_behind on.newer on.said events (subst Begins on.more_is begins))
-fails_here fault.LongLine number events more left fails next begins on = let short = says_short (first_line left) on.said on.says in let long = fails.fails in omega arith
+fails_here fault.Trailing number events more left fails next begins on =
+    ended events fails.0 (due_behind on.newer on.said events (subst Begins on.more_is begins))
+fails_here fault.LongLine number events more left fails next begins on =
+    let short = says_short (first_line left) on.said on.says in let long = fails.fails in omega arith
 fails_here fault.Form number events more left fails next begins on = fails.fails.1 on.said on.says
 fails_here fault.Number number events more left fails next begins on = says_in_range (first_line left) on.said on.says fails.fails
 fails_here fault.TooMany number events more left fails next begins on =
@@ -169,11 +200,13 @@ fails_here fault.TooMany number events more left fails next begins on =
     omega (arith, still.1)
 
 -- behind the same events, with the same bytes left, there is one fault
-one_fault : (k l : LineFault) (number : ℕ) (events : List Event) (left : List ℕ) → FailsWith k number events left → FailsWith l number events left → k ≡ l
+one_fault : (k l : LineFault) (number : ℕ) (events : List Event) (left : List ℕ) → FailsWith k number events left
+    → FailsWith l number events left → k ≡ l
 one_fault k l number events left first second = grind (arith, ended events, says_short (first_line left), says_in_range (first_line left))
 
 -- two first bad lines, with no more events before the one than before the other
-fails_once : (text : List ℕ) (a b : List Event) (m n : ℕ) (k l : LineFault) → length a ≤ length b → FailsAt text a m k → FailsAt text b n l → (m ≡ n) × (k ≡ l) × (a ≡ b)
+fails_once : (text : List ℕ) (a b : List Event) (m n : ℕ) (k l : LineFault) → length a ≤ length b → FailsAt text a m k
+    → FailsAt text b n l → (m ≡ n) × (k ≡ l) × (a ≡ b)
 fails_once text a b m n k l few first second = elim (both_read text first.left second.left a b few first.read second.read) [
   | inl (events, left) ↦
       let number : m ≡ n = sym first.next ∙ ap (λ z. length z + 1) events ∙ second.next in
@@ -183,14 +216,16 @@ fails_once text a b m n k l few first second = elim (both_read text first.left s
 ]
 
 -- a text has one first bad line at most
-pub bad_line_once : (text : List ℕ) (a b : List Event) (m n : ℕ) (k l : LineFault) → FailsAt text a m k → FailsAt text b n l → (m ≡ n) × (k ≡ l) × (a ≡ b)
+pub bad_line_once : (text : List ℕ) (a b : List Event) (m n : ℕ) (k l : LineFault) → FailsAt text a m k → FailsAt text b n l
+    → (m ≡ n) × (k ≡ l) × (a ≡ b)
 bad_line_once text a b m n k l first second = elim (cases_lt (length b) (length a)) [
   | inl fewer ↦ let once = fails_once text b a n m l k (omega arith) second first in (sym once.0, sym once.1, sym once.2)
   | inr few ↦ fails_once text a b m n k l few first second
 ]
 
 -- nothing is left behind a whole schedule, so no reading of its text goes on
-schedule_within : (text left : List ℕ) (events earlier : List Event) → IsSchedule text events → HasRead text left earlier → (length earlier ≤ length events → Follows left earlier events → ⊥) → (earlier ≡ events) × (left ≡ [])
+schedule_within : (text left : List ℕ) (events earlier : List Event) → IsSchedule text events → HasRead text left earlier
+    → (length earlier ≤ length events → Follows left earlier events → ⊥) → (earlier ≡ events) × (left ≡ [])
 schedule_within text left events earlier whole read stays = elim (cases_lt (length events) (length earlier)) [
   | inl fewer ↦ elim (both_read text [] left events earlier (omega arith) whole.1 read) [
     | inl all ↦ (sym all.0, sym all.1)
@@ -216,7 +251,10 @@ done fault.Number number events end fails = fails.some refl
 done fault.TooMany number events end fails = fails.some refl
 
 -- a whole schedule has no bad line
-pub no_bad_line : (text : List ℕ) (events earlier : List Event) (number : ℕ) (kind : LineFault) → IsSchedule text events → ¬ FailsAt text earlier number kind
+pub no_bad_line : (text : List ℕ) (events earlier : List Event) (number : ℕ) (kind : LineFault) → IsSchedule text events
+    → ¬ FailsAt text earlier number kind
 no_bad_line text events earlier number kind whole bad =
-    let within = schedule_within text bad.left events earlier whole bad.read (λ few. fails_here kind number earlier events bad.left bad.fails bad.next (inl whole.0)) in
-    done kind number events whole.0 (subst (λ z. FailsWith kind number z []) within.0 (subst (λ z. FailsWith kind number earlier z) within.1 bad.fails))
+    let within = schedule_within text bad.left events earlier whole bad.read
+    (λ few. fails_here kind number earlier events bad.left bad.fails bad.next (inl whole.0)) in
+    done kind number events whole.0 (subst (λ z. FailsWith kind number z []) within.0
+    (subst (λ z. FailsWith kind number earlier z) within.1 bad.fails))

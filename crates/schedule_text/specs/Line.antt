@@ -81,7 +81,8 @@ IsTextOf (event.WriteWords bytes) line = line ≡ codes "g wd " ++ hex_text byte
 IsTextOf event.ReadPointer line = line ≡ codes "g r32"
 IsTextOf (event.WritePointer v) line = line ≡ codes "g w32 " ++ hex_long v
 IsTextOf (event.ReadMemory a n) line = line ≡ codes "g mr " ++ hex_long a ++ 32 ∷ decimal n
-IsTextOf (event.WriteMemory a bytes) line = line ≡ codes "g mw " ++ hex_long a ++ 32 ∷ hex_text bytes
+IsTextOf (event.WriteMemory a bytes) line =
+    line ≡ codes "g mw " ++ hex_long a ++ 32 ∷ hex_text bytes
 IsTextOf event.Line line = line ≡ codes "g line"
 IsTextOf (event.Drive step.Good) line = line ≡ codes "d ok"
 IsTextOf (event.Drive step.Bad) line = line ≡ codes "d bad"
@@ -96,7 +97,8 @@ Says line e = IsInRange e × IsTextOf e line
 
 -- a decimal number, however long, that isn't from low to high
 abbrev pub IsBeyond : ℕ → ℕ → List ℕ → Type 0
-IsBeyond low high text = IsDecimal text × ¬ ((low ≤ digits_value 10 text) × (digits_value 10 text ≤ high))
+IsBeyond low high text =
+    IsDecimal text × ¬ ((low ≤ digits_value 10 text) × (digits_value 10 text ≤ high))
 
 -- a line has an event's shape up to its decimal number, and that number is out of range (own)
 abbrev pub HasBeyond : List ℕ → Type 0
@@ -111,27 +113,29 @@ IsOutOfRange line = (length line ≤ LINE_BYTES) × HasBeyond line
 
 -- a line of no event's shape
 abbrev pub IsFormless : List ℕ → Type 0
-IsFormless line = (length line ≤ LINE_BYTES) × ((event : Event) → ¬ Says line event) × ¬ IsOutOfRange line
+IsFormless line =
+    (length line ≤ LINE_BYTES) × ((event : Event) → ¬ Says line event) × ¬ IsOutOfRange line
 
 -- a line has a fault, one of three at most; the others are a whole schedule's
 abbrev pub HasFault : List ℕ → LineFault → Type 0
+HasFault line fault.LongLine = LINE_BYTES < length line
 HasFault line fault.Form = IsFormless line
 HasFault line fault.Number = IsOutOfRange line
-HasFault line fault.LongLine = LINE_BYTES < length line
-HasFault line fault.NoEnd = ⊥
 HasFault line fault.TooMany = ⊥
+HasFault line fault.NoEnd = ⊥
 HasFault line fault.Trailing = ⊥
 
--- the answer to a line that is read into an event: done where the line says that event now, or its fault
+-- the answer to a line that is read into an event: done where the line says that event now, or its
+-- fault
 abbrev pub ReadsInto : {U : Type 0} → List ℕ → Event → Result U LineFault → Type 0
 ReadsInto line event answer = MatchResult answer (λ done. Says line event) (HasFault line)
 
 -- the answer to a decimal number of a line that may be from low to high: the number, or its fault
 abbrev pub ReadsNumber : ℕ → ℕ → List ℕ → Result ℕ LineFault → Type 0
 ReadsNumber low high text (Ok n) = (low ≤ n) × (n ≤ high) × (text ≡ decimal n)
+ReadsNumber low high text (Err fault.LongLine) = ⊥
 ReadsNumber low high text (Err fault.Form) = ¬ IsDecimal text
 ReadsNumber low high text (Err fault.Number) = IsBeyond low high text
-ReadsNumber low high text (Err fault.LongLine) = ⊥
-ReadsNumber low high text (Err fault.NoEnd) = ⊥
 ReadsNumber low high text (Err fault.TooMany) = ⊥
+ReadsNumber low high text (Err fault.NoEnd) = ⊥
 ReadsNumber low high text (Err fault.Trailing) = ⊥

@@ -1,5 +1,6 @@
 -- A whole schedule: the lines of its events. Lists of events have the newest first.
 use Rattle.std.specs.Prelude.{ℕ, ◌≡◌, ◌≢◌, ◌<◌, ◌++◌, ◌⊎◌, List, [], ◌∷◌, length}
+use Rattle.std.specs.List.{AllByRecursion}
 use Rattle.schedule_text.specs.declared.Event.{Event}
 use Rattle.schedule_text.specs.declared.Event.TheVariants as event
 use Rattle.schedule_text.specs.declared.TheConstants.{LAST_LINE}
@@ -7,8 +8,7 @@ use Rattle.schedule_text.specs.Line.{Says}
 
 -- the bytes have no line feed (10)
 abbrev pub IsOneLine : List ℕ → Type 0
-IsOneLine [] = Unit {0}
-IsOneLine (c ∷ rest) = (c ≢ 10) × IsOneLine rest
+IsOneLine bytes = AllByRecursion (λ byte. byte ≢ 10) bytes
 
 -- the text is the lines of these events, each ended by a line feed
 abbrev pub HasLines : List ℕ → List Event → Type 0
@@ -20,16 +20,15 @@ HasLines text (one ∷ earlier) = (before line : List ℕ) × HasLines before ea
 abbrev pub IsCutOff : List ℕ → Type 0
 IsCutOff text = (front : List ℕ) × (last : ℕ) × (last ≢ 10) × (text ≡ front ++ last ∷ [])
 
--- the text is the lines of these events and then what is left; nothing is behind a last line that lacks
--- its line feed
+-- the text is the lines of these events and then what is left; nothing is behind a last line that
+-- lacks its line feed
 abbrev pub HasRead : List ℕ → List ℕ → List Event → Type 0
 HasRead text left events = (before : List ℕ) × HasLines before events
     × ((text ≡ before ++ left) ⊎ ((left ≡ []) × (before ≡ text ++ 10 ∷ []) × IsCutOff text))
 
 -- the line `end` isn't among these events
 abbrev pub HasNoEnd : List Event → Type 0
-HasNoEnd [] = Unit {0}
-HasNoEnd (one ∷ earlier) = (one ≢ event.End) × HasNoEnd earlier
+HasNoEnd events = AllByRecursion (λ one. one ≢ event.End) events
 
 -- a line may follow the lines of these events: `end` isn't among them, and that line has a number
 abbrev pub MayGoOn : List Event → Type 0
@@ -40,6 +39,7 @@ abbrev pub IsEnded : List Event → Type 0
 IsEnded [] = ⊥
 IsEnded (last ∷ earlier) = (last ≡ event.End) × MayGoOn earlier
 
--- the text is a whole schedule: the lines of these events, of which its one `end` is the last, and nothing else
+-- the text is a whole schedule: the lines of these events, of which its one `end` is the last, and
+-- nothing else
 abbrev pub IsSchedule : List ℕ → List Event → Type 0
 IsSchedule text events = IsEnded events × HasRead text [] events

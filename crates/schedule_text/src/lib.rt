@@ -1,8 +1,8 @@
 //! The text of schedules and reports: lines to events, and what an event gave to lines.
 //!
-//! Start with `Event`, one line of a schedule, and `Item`, one line of a report. `specs/Line.antt` has the grammar of a
-//! schedule's line, `specs/Schedule.antt` that of a whole schedule, `specs/BadLine.antt` what its first bad line is, and
-//! `specs/Report.antt` the text of a report's lines. `docs/formats.md` has the same as tables.
+//! Start with `Event`, one line of a schedule, and `Item`, one line of a report. `specs/Line.antt` has the grammar of
+//! a schedule's line, `specs/Schedule.antt` that of a whole schedule, `specs/BadLine.antt` what its first bad line is,
+//! and `specs/Report.antt` the text of a report's lines. `docs/formats.md` has the same as tables.
 
 #![tactic(auto)]
 
@@ -58,19 +58,19 @@ pub enum Event {
     End,
 }
 
-/// Why a line isn't one of a schedule, the first that holds.
+/// Why a line isn't one of a schedule: the first of these that holds.
 #[derive(Clone, Copy, Debug, PartialEq, Eq)]
 pub enum LineFault {
+    /// The line is longer than `LINE_BYTES`.
+    LongLine,
     /// No line has this shape.
     Form,
     /// The shape is a line's, and its number is out of range.
     Number,
-    /// The line is longer than `LINE_BYTES`.
-    LongLine,
+    /// The line is good but not `end`, and its number is `LAST_LINE`.
+    TooMany,
     /// The schedule ended before the line `end`.
     NoEnd,
-    /// The schedule has more lines than a line number can tell.
-    TooMany,
     /// Something follows the line `end`.
     Trailing,
 }

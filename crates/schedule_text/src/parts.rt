@@ -10,13 +10,6 @@ use aoe_frame::Bytes;
 use ata_taskfile::Reg;
 use decimal_text::{is_decimal, value};
 
-pub(crate) fn after<'a>(line: &'a [u8], front: &[u8]) -> Option<&'a [u8]>
-    ensures cut { MatchOption result ((rest : List ℕ) → line.now ≢ front.now ++ rest)
-        (λ rest. line.now ≡ front.now ++ rest.now) }
-{
-    line.strip_prefix(front)
-}
-
 pub(crate) fn register_and_byte(text: &[u8]) -> Option<(Reg, u8)>
     ensures told { MatchOption result
         ((r : RegOf) (v : ℕ) → v < 256 → text.now ≢ register_text r ++ 32 ∷ hex_byte v)

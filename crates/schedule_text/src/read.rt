@@ -5,7 +5,7 @@ ghost use Rattle.std.specs.Prelude.{length, codes, IfOk, IfErr};
 ghost use Rattle.schedule_text.specs.declared.Event.{Event as EventOf};
 ghost use Rattle.schedule_text.specs.Line.{hex_long, Says, ReadsInto, HasFault, IsOutOfRange, IsFormless};
 
-use crate::parts::{address_and_rest, after, bytes, long, number, register, register_and_byte};
+use crate::parts::{address_and_rest, bytes, long, number, register, register_and_byte};
 use crate::{Event, LINE_BYTES, LineFault};
 use ata_taskfile::Step;
 
@@ -51,29 +51,15 @@ fn read_access(access: &[u8], event: &mut Event) -> Result<(), LineFault>
     requires { 2 + length access.now ≤ LINE_BYTES }
     ensures reads { ReadsInto (codes "g " ++ access.now) event.new result }
 {
-    if let Some(name) = after(access, b"r8 ") {
-        return read_read8(name, event);
-    }
-    if let Some(rest) = after(access, b"w8 ") {
-        return read_write8(rest, event);
-    }
-    if let Some(digits) = after(access, b"rd ") {
-        return read_words(digits, event);
-    }
-    if let Some(hex) = after(access, b"wd ") {
-        return read_write_words(hex, event);
-    }
-    if let Some(hex) = after(access, b"w32 ") {
-        return read_write_pointer(hex, event);
-    }
-    if let Some(rest) = after(access, b"mr ") {
-        return read_memory(rest, event);
-    }
-    if let Some(rest) = after(access, b"mw ") {
-        return read_write_memory(rest, event);
-    }
     match access {
+        [b'r', b'8', b' ', name @ ..] => return read_read8(name, event),
+        [b'w', b'8', b' ', rest @ ..] => return read_write8(rest, event),
+        [b'r', b'd', b' ', digits @ ..] => return read_words(digits, event),
+        [b'w', b'd', b' ', hex @ ..] => return read_write_words(hex, event),
         b"r32" => *event = Event::ReadPointer,
+        [b'w', b'3', b'2', b' ', hex @ ..] => return read_write_pointer(hex, event),
+        [b'm', b'r', b' ', rest @ ..] => return read_memory(rest, event),
+        [b'm', b'w', b' ', rest @ ..] => return read_write_memory(rest, event),
         b"line" => *event = Event::Line,
         _ => return Err(LineFault::Form),
     }
@@ -85,12 +71,10 @@ fn read_act(act: &[u8], event: &mut Event) -> Result<(), LineFault>
     requires { 2 + length act.now ≤ LINE_BYTES }
     ensures reads { ReadsInto (codes "d " ++ act.now) event.new result }
 {
-    if let Some(digits) = after(act, b"put ") {
-        return read_destage(digits, event);
-    }
     match act {
         b"ok" => *event = Event::Drive(Step::Good),
         b"bad" => *event = Event::Drive(Step::Bad),
+        [b'p', b'u', b't', b' ', digits @ ..] => return read_destage(digits, event),
         _ => return Err(LineFault::Form),
     }
     Ok(())
@@ -189,7 +173,8 @@ fn read_write_memory(rest: &[u8], event: &mut Event) -> Result<(), LineFault>
 
 fn read_bytes(address: u32, hex: &[u8], event: &mut Event) -> Result<(), LineFault>
     requires { 14 + length hex.now ≤ LINE_BYTES }
-    ensures reads { ReadsInto (codes "g mw " ++ hex_long address ++ 32 ∷ hex.now) event.new result }
+    ensures reads { ReadsInto (codes "g mw " ++ hex_long address ++ 32 ∷ hex.now)
+        event.new result }
 {
     match bytes(hex) {
         Some(bytes) => *event = Event::WriteMemory(address, bytes),

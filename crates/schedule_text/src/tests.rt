@@ -315,7 +315,8 @@ fn long_lines(rt: HostRuntime) {
     }
 }
 
-// By hand from the table of a report's lines: the number of the event's line, the item, its event's answer, and the line.
+// By hand from the table of a report's lines: the number of the event's line, the item, its event's answer, and the
+// line.
 const REPORTED: [(u32, Item, &[u8], &[u8]); 8] = [
     (8, Item::Answer, &[0x80], b"8 o 80\n"),
     (13, Item::Answer, &[0x0e, 0xe0, 0xff], b"13 o 0ee0ff\n"),

@@ -1,6 +1,6 @@
 //! Runs that are done: the report, and out.
 
-use crate::hosts::{DISK, joined, run_quietly, run_schedule, run_words};
+use crate::hosts::{DISK, check_done, joined, run_quietly, run_words};
 use bm_host::{NoMemory, Role};
 use bmcast::Status;
 use schedule_text::LineFault;
@@ -22,15 +22,7 @@ fn short_schedules_and_their_reports(rt: HostRuntime) -> Result<(), Fail> {
         (&longest, b"end 2\n"),
     ];
     for (schedule, report) in cases {
-        let (status, host) = run_schedule(rt.alloc(), schedule, &[])?;
-        assert_eq!(rt; status, Status::Done, "at {report:?}");
-        assert_eq!(rt; host.contents(Role::Report), report);
-        assert_eq!(rt; host.contents(Role::Out), DISK.as_slice(), "at {report:?}");
-        assert_eq!(rt;
-            host.contents(Role::Console),
-            b"".as_slice(),
-            "at {report:?}"
-        );
+        check_done(&rt, rt.alloc(), schedule, report, &DISK)?;
     }
     Ok(())
 }
@@ -89,10 +81,5 @@ pub fn report_of_read(alloc: Global) -> Result<Vec<u8>, NoMemory> {
 fn one_sector_is_read_by_pio(rt: HostRuntime) -> Result<(), Fail> {
     let mut report = report_of_read(rt.alloc())?;
     report.extend_from_slice(b"end 16\n")?;
-    let (status, host) = run_schedule(rt.alloc(), READ, &[])?;
-    assert_eq!(rt; status, Status::Done);
-    assert_eq!(rt; host.contents(Role::Report), report.as_slice());
-    assert_eq!(rt; host.contents(Role::Out), DISK.as_slice());
-    assert_eq!(rt; host.contents(Role::Console), b"".as_slice());
-    Ok(())
+    check_done(&rt, rt.alloc(), READ, report.as_slice(), &DISK)
 }

@@ -1,8 +1,7 @@
 //! Runs over every kind of event of the drive: writes, walks, destages and power cuts.
 
-use crate::hosts::{DISK, joined, run_schedule};
-use bm_host::{NoMemory, Role};
-use bmcast::Status;
+use crate::hosts::{DISK, check_done, joined};
+use bm_host::NoMemory;
 use std::alloc::Global;
 use std::test::Fail;
 
@@ -16,11 +15,7 @@ fn a_short_table_ends_the_walk(rt: HostRuntime) -> Result<(), Fail> {
         g r8 bs\ng r8 st\ng mr 00001000 4\ng w8 al 04\ng w8 al 00\nd ok\ng r8 st\ng r8 er\nend\n";
     let report = b"1 p go 1\n7 c c8 0 2\n9 p go 1\n11 o 00\n12 o 80\n13 o eeeeeeee\n\
         16 p go 1\n17 o 50\n18 o 01\nend 19\n";
-    let (status, host) = run_schedule(rt.alloc(), schedule, &[])?;
-    assert_eq!(rt; status, Status::Done);
-    assert_eq!(rt; host.contents(Role::Report), report.as_slice());
-    assert_eq!(rt; host.contents(Role::Out), DISK.as_slice());
-    Ok(())
+    check_done(&rt, rt.alloc(), schedule, report, &DISK)
 }
 
 // WRITE SECTOR(S) of sector 3, all bytes AAh, and `behind` before the power is cut.
@@ -55,10 +50,13 @@ fn a_cut_leaves_what_is_durable(rt: HostRuntime) -> Result<(), Fail> {
         if stays {
             out[3 * 512..4 * 512].copy_from_slice(&[0xaa; 512]);
         }
-        let (status, host) = run_schedule(rt.alloc(), schedule.as_slice(), &[])?;
-        assert_eq!(rt; status, Status::Done, "at {behind:?}");
-        assert_eq!(rt; host.contents(Role::Report), report.as_slice());
-        assert_eq!(rt; host.contents(Role::Out), out.as_slice(), "at {behind:?}");
+        check_done(
+            &rt,
+            rt.alloc(),
+            schedule.as_slice(),
+            report.as_slice(),
+            &out,
+        )?;
     }
     Ok(())
 }
@@ -70,14 +68,11 @@ fn memory_and_pointer_of_the_guest(rt: HostRuntime) -> Result<(), Fail> {
     let schedule = b"g mw 000fffff abcd\ng mr 000ffffe 3\ng mr ffffffff 2\ng w32 12345677\ng r32\n\
         g r8 bc\ncut\ng mr 000fffff 1\ng r32\nend\n";
     let report = b"2 o 00abff\n3 o ffff\n5 o 12345674\n6 o 00\n8 o 00\n9 o 00000000\nend 10\n";
-    let (status, host) = run_schedule(rt.alloc(), schedule, &[])?;
-    assert_eq!(rt; status, Status::Done);
-    assert_eq!(rt; host.contents(Role::Report), report.as_slice());
-    Ok(())
+    check_done(&rt, rt.alloc(), schedule, report, &DISK)
 }
 
-// A failing step has no effect in Reset and Idle. It ends READ SECTOR(S) of sectors 8 and 9 at its first sector: Error is
-// UNC, and LBA Low shows sector 8. The command before it was ended by a reset.
+// A failing step has no effect in Reset and Idle. It ends READ SECTOR(S) of sectors 8 and 9 at its first sector: Error
+// is UNC, and LBA Low shows sector 8. The command before it was ended by a reset.
 #[test]
 fn a_failing_step_is_told(rt: HostRuntime) -> Result<(), Fail> {
     let schedule = b"d bad\nd ok\ng w8 sc 02\ng w8 ll 07\ng w8 dv e0\ng w8 st 20\nd ok\ng rd 1\n\
@@ -85,8 +80,5 @@ fn a_failing_step_is_told(rt: HostRuntime) -> Result<(), Fail> {
         g r8 st\ng r8 er\ng r8 ll\nd bad\nend\n";
     let report = b"2 p go 1\n6 c 20 7 2\n7 p go 1\n8 o eeee\n11 p go 1\n15 c 20 8 2\n16 p bad\n\
         17 o 51\n18 o 40\n19 o 08\nend 21\n";
-    let (status, host) = run_schedule(rt.alloc(), schedule, &[])?;
-    assert_eq!(rt; status, Status::Done);
-    assert_eq!(rt; host.contents(Role::Report), report.as_slice());
-    Ok(())
+    check_done(&rt, rt.alloc(), schedule, report, &DISK)
 }

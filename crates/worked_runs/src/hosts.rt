@@ -3,6 +3,8 @@
 use bm_host::{MemoryHost, NoMemory, QuietHost, Role};
 use bmcast::{Status, bmcast};
 use std::alloc::Global;
+use std::process::Abort;
+use std::test::Fail;
 
 /// The words of a run.
 pub const WORDS: [&str; 19] = [
@@ -58,47 +60,58 @@ pub fn run(
     Ok((status, host))
 }
 
-/// A schedule without an image, by the words of a run.
+/// Runs `bmcast` over a schedule without an image, by the words of a run. The host's calls of these numbers fail.
 pub fn run_schedule(
     alloc: Global,
     schedule: &[u8],
     failing: &[u32],
 ) -> Result<(Status, MemoryHost), NoMemory> {
-    let files = Files {
-        image: &[],
-        disk: &DISK,
-        schedule,
-        failing,
-    };
-    run(alloc, &WORDS, &[], &files)
+    run(alloc, &WORDS, &[], &without_image(schedule, failing))
 }
 
-/// The schedule that only ends, without an image, by `words` and `more` words.
+/// Checks that a schedule without an image is done, with this report, these bytes in Out and none in Console.
+pub fn check_done(
+    rt: &impl Abort,
+    alloc: Global,
+    schedule: &[u8],
+    report: &[u8],
+    out: &[u8],
+) -> Result<(), Fail> {
+    let (status, host) = run_schedule(alloc, schedule, &[])?;
+    assert_eq!(rt; status, Status::Done, "at {schedule:?}");
+    assert_eq!(rt; host.contents(Role::Report), report, "at {schedule:?}");
+    assert_eq!(rt; host.contents(Role::Out), out, "at {schedule:?}");
+    assert_eq!(rt;
+        host.contents(Role::Console),
+        b"".as_slice(),
+        "at {schedule:?}"
+    );
+    Ok(())
+}
+
+/// Runs `bmcast` over the schedule that only ends, without an image, by `words` and `more` words.
 pub fn run_words(
     alloc: Global,
     words: &[&str],
     more: &[&str],
 ) -> Result<(Status, MemoryHost), NoMemory> {
-    let files = Files {
-        image: &[],
-        disk: &DISK,
-        schedule: b"end\n",
-        failing: &[],
-    };
-    run(alloc, words, more, &files)
+    run(alloc, words, more, &without_image(b"end\n", &[]))
 }
 
-/// A schedule without an image, over a host that never fails, by the words of a run.
+/// Runs `bmcast` over a schedule without an image and a host that never fails, by the words of a run.
 pub fn run_quietly(alloc: Global, schedule: &[u8]) -> Result<Status, NoMemory> {
-    let files = Files {
+    let mut host = QuietHost::new(named(alloc, &without_image(schedule, &[]))?);
+    let words = owned(alloc, &WORDS, &[])?;
+    Ok(bmcast(alloc, words.as_slice(), &mut host))
+}
+
+fn without_image<'a>(schedule: &'a [u8], failing: &'a [u32]) -> Files<'a> {
+    Files {
         image: &[],
         disk: &DISK,
         schedule,
-        failing: &[],
-    };
-    let mut host = QuietHost::new(named(alloc, &files)?);
-    let words = owned(alloc, &WORDS, &[])?;
-    Ok(bmcast(alloc, words.as_slice(), &mut host))
+        failing,
+    }
 }
 
 fn host_of(alloc: Global, files: &Files<'_>) -> Result<MemoryHost, NoMemory> {
@@ -115,6 +128,7 @@ fn named(alloc: Global, files: &Files<'_>) -> Result<Vec<(Role, Vec<u8>)>, NoMem
     Ok(named)
 }
 
+/// The words, and behind them `more` words, each as a text of its own.
 pub fn owned(alloc: Global, words: &[&str], more: &[&str]) -> Result<Vec<String>, NoMemory> {
     let mut all = Vec::new(alloc);
     for word in words {

@@ -4,19 +4,35 @@ use crate::hosts::{Ending, Files, OLD_REPORT, WORDS, joined, run, run_schedule, 
 use bm_host::Role;
 use bmcast::{Status, Why};
 use schedule_text::LineFault::{self, Form, LongLine, NoEnd, Number, Trailing};
+use std::alloc::Global;
+use std::process::Abort;
 use std::test::Fail;
 
 const USAGE: &[u8] = b"bmcast: the words are not a command line of this program\n";
+
+// No command line has these words, and the report stays as it was.
+fn check_usage(rt: &impl Abort, alloc: Global, words: &[&str], more: &[&str]) -> Result<(), Fail> {
+    let (status, host) = run_words(alloc, words, more)?;
+    assert_eq!(rt; status, Status::Usage, "at {words:?} {more:?}");
+    assert_eq!(rt;
+        host.contents(Role::Console),
+        USAGE,
+        "at {words:?} {more:?}"
+    );
+    assert_eq!(rt;
+        host.contents(Role::Report),
+        OLD_REPORT,
+        "at {words:?} {more:?}"
+    );
+    Ok(())
+}
 
 // The first words of a run alone. By hand from the rule of the command line, as the words below.
 #[test]
 fn words_missing(rt: HostRuntime) -> Result<(), Fail> {
     for count in [0, 1, 13, 14, 18] {
         assert!(rt; count < WORDS.len());
-        let (status, host) = run_words(rt.alloc(), &WORDS[..count], &[])?;
-        assert_eq!(rt; status, Status::Usage, "at {count}");
-        assert_eq!(rt; host.contents(Role::Console), USAGE);
-        assert_eq!(rt; host.contents(Role::Report), OLD_REPORT);
+        check_usage(&rt, rt.alloc(), &WORDS[..count], &[])?;
     }
     Ok(())
 }
@@ -33,10 +49,7 @@ fn words_twice_or_unknown(rt: HostRuntime) -> Result<(), Fail> {
         ("--help", "run"),
     ];
     for (name, value) in cases {
-        let (status, host) = run_words(rt.alloc(), &WORDS, &[name, value])?;
-        assert_eq!(rt; status, Status::Usage, "at {name} {value}");
-        assert_eq!(rt; host.contents(Role::Console), USAGE);
-        assert_eq!(rt; host.contents(Role::Report), OLD_REPORT);
+        check_usage(&rt, rt.alloc(), &WORDS, &[name, value])?;
     }
     Ok(())
 }

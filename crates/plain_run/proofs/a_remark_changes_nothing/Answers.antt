@@ -22,4 +22,5 @@ remark_stays one old new is reached = rw is at reached
 
 pub returns : goal.returns
 returns c old new entry is event =
-    stays entry.items event.between new (event.placed (rw is refl)) event.followed ∙ remark_stays entry.event old event.between is event.reached
+    stays entry.items event.between new (event.placed (rw is refl)) event.followed ∙
+    remark_stays entry.event old event.between is event.reached

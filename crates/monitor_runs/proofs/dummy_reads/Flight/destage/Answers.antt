@@ -5,8 +5,10 @@ use Rattle.dummy_read.specs.Flight.{IsInFlight}
 use Rattle.monitor_runs.proofs.FlightRuns.{destage_runs}
 use Rattle.monitor_runs.proofs.dummy_reads.Flight.destage.Goals as goal
 
-pub returns : goal.returns
-returns c = λ e.
+pub invariant_of-self : goal.invariant_of-self
+invariant_of-self c =
     let f = c.args.self.now in
-    subst (λ (p : Physical). IsInFlight f.dummy.sector f.dummy.cancelled (seen p).device) (sym c.destage.ensures)
-    (destage_runs f.dummy.sector f.dummy.cancelled 0 (physical_of f.machine.drive f.machine.memory) (c.requires e))
+    record {
+      flies = λ e. subst (λ (p : Physical). IsInFlight f.dummy.sector f.dummy.cancelled (seen p).device) (sym c.destage.ensures)
+          (destage_runs f.dummy.sector f.dummy.cancelled 0 (physical_of f.machine.drive f.machine.memory) (f.flies e));
+    }
