@@ -1,5 +1,5 @@
 -- What the client asks for, and what each call does to it.
-use Rattle.std.specs.Prelude.{ℕ, ◌≡◌, ◌≤◌, ◌/◌, ◌*◌, ◌⊎◌, ◌||◌, Bool, true, false, List, [], ◌∷◌, ◌++◌, length, slice_get, option_map, Option, Some, None, if◌then◌else◌}
+use Rattle.std.specs.Prelude.{ℕ, ◌≡◌, ◌≤◌, ◌/◌, ◌*◌, ◌||◌, Bool, true, false, List, [], ◌∷◌, ◌++◌, length, slice_get, option_map, Option, Some, None, if◌then◌else◌}
 use Rattle.std.specs.List.{list_all}
 use Rattle.mon_pool.specs.Region.{Held, Region}
 use Rattle.aoe_client.specs.declared.client.Slot.{Slot}
@@ -19,10 +19,6 @@ pub record Asking : Type 0 where
 -- a client that asks for nothing
 abbrev pub nothing_asked : ℕ → Asking
 nothing_asked block = record { block = block; demand = None; background = None }
-
--- the sizes that a block may have, in sectors
-abbrev pub IsBlockSize : ℕ → Type 0
-IsBlockSize block = (block ≡ 8) ⊎ (block ≡ 16) ⊎ (block ≡ 32) ⊎ (block ≡ 64)
 
 -- a block has so many tags, of two sectors each
 abbrev pub tags_in : ℕ → ℕ

@@ -2,7 +2,8 @@
 
 ghost use Rattle.std.specs.Prelude.{◌≡◌, ◌+◌, ◌*◌, ◌<◌, ◌≤◌, ◌^◌, ◌↔◌, All, ℕ, List, IfErr, IfSome, IsErr, IsSome, IsTrue, OnErr, OnOk, None, Some, is_some, length, true, option_map, slice_get, if◌then◌else◌};
 ghost use Rattle.mon_pool.specs.Region.{AreOf, Region, all_given};
-ghost use Rattle.aoe_client.specs.Asking.{Asking, IsBlockSize, both_ticked, buffers_heard, done_in, due_tags, heard, in_slot, is_awaited, leases_of, next_sent, nothing_asked, tags_in, with_slot};
+ghost use Rattle.fill_bitmap.specs.Area.{IsBlock};
+ghost use Rattle.aoe_client.specs.Asking.{Asking, both_ticked, buffers_heard, done_in, due_tags, heard, in_slot, is_awaited, leases_of, next_sent, nothing_asked, tags_in, with_slot};
 ghost use Rattle.aoe_client.specs.Buffers.{BothHold, Gives, Holds, IsFetched};
 ghost use Rattle.aoe_client.specs.Fetching.{asked_for};
 ghost use Rattle.aoe_client.specs.Messages.{Answers, request_frame, sectors_in};
@@ -48,20 +49,21 @@ pub struct Client {
 }
 
 impl Model for Client {
-    ghost use Rattle.aoe_client.specs.Asking.{Asking, HasTags, IsBlockSize};
+    ghost use Rattle.fill_bitmap.specs.Area.{IsBlock};
+    ghost use Rattle.aoe_client.specs.Asking.{Asking, HasTags};
 
     ghost Value = { Asking };
 
     ghost view = { λ c. record { block = c.block; demand = c.demand; background = c.background } };
 
     ghost invariant = { λ c.
-        IsBlockSize c.block × HasTags c.block c.demand × HasTags c.block c.background };
+        IsBlock c.block × HasTags c.block c.demand × HasTags c.block c.background };
 }
 
 impl Client {
     /// A client for blocks of so many sectors, which asks for nothing.
     pub fn new(block: u32) -> Client
-        requires { IsBlockSize block }
+        requires { IsBlock block }
         ensures { result ≡ nothing_asked block }
     {
         Client {

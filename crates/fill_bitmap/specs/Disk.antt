@@ -5,7 +5,7 @@ use Rattle.std.specs.List.{range_with_len}
 use Rattle.std.specs.Str.{bytes_eq}
 use Rattle.fill_bitmap.specs.declared.area.Area.{Area}
 use Rattle.fill_bitmap.specs.declared.area.TheConstants.{BLOCKS_OF_SECTOR}
-use Rattle.fill_bitmap.specs.Area.{blocks_of, bitmap_sectors_of, reserved_of}
+use Rattle.fill_bitmap.specs.Area.{block_at, blocks_of, bitmap_sectors_of, reserved_of, sector_of_bits}
 use Rattle.fill_bitmap.specs.Bits.{has_bit, sector_of}
 use Rattle.fill_bitmap.specs.BlockSet.{has, empty_set, with_sector}
 
@@ -26,9 +26,9 @@ HasHeader area id disk = sector_at (reserved_of area) disk ≡ header_of area id
 abbrev pub has_header : Area → ℕ → List (List ℕ) → Bool
 has_header area id disk = bytes_eq (sector_at (reserved_of area) disk) (header_of area id)
 
--- sector `k` of the bitmap on a disk: it stands behind the header (own)
+-- sector `k` of the bitmap on a disk
 abbrev pub bitmap_sector : Area → List (List ℕ) → ℕ → List ℕ
-bitmap_sector area disk k = sector_at (reserved_of area + 1 + k) disk
+bitmap_sector area disk k = sector_at (sector_of_bits area k) disk
 
 -- whether the bitmap on a disk has the bit of block `b` set
 abbrev pub says_stored : Area → List (List ℕ) → ℕ → Bool
@@ -45,10 +45,14 @@ abbrev pub with_sectors : ℕ → Area → List (List ℕ) → List Bool → Lis
 with_sectors zero area disk set = set
 with_sectors (suc k) area disk set = with_sector k (bitmap_sector area disk k) (with_sectors k area disk set)
 
--- what a guest reads at sector `s` where these blocks are on the disk: the image's sector in any other block (own)
+-- a sector lies in an empty block: it is one of the image's, and the set lacks its block (own)
+abbrev pub is_empty_at : Area → List Bool → ℕ → Bool
+is_empty_at area set s = nat_lt s area.image && not (has set (block_at area s))
+
+-- what a guest reads at sector `s` where these blocks are on the disk: the image's sector in an empty one (own)
 abbrev pub sector_seen : Area → List Bool → List (List ℕ) → List (List ℕ) → ℕ → List ℕ
 sector_seen area set image disk s =
-    if nat_lt s area.image && not (has set (s / area.block)) then sector_at s image else sector_at s disk
+    if is_empty_at area set s then sector_at s image else sector_at s disk
 
 -- what a guest finds on a disk after a power cut: every sector below the reserved ones, by the stored blocks (own)
 abbrev pub guest_view : Area → ℕ → List (List ℕ) → List (List ℕ) → List (List ℕ)

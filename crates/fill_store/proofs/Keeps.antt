@@ -6,12 +6,11 @@ use Rattle.ata_taskfile.specs.Device.{Cell}
 use Rattle.plain_drive.specs.Plain.{appended, all_flushed}
 use Rattle.plain_drive.proofs.Cells.{appended-current}
 use Rattle.fill_bitmap.specs.declared.area.Area.{Area}
-use Rattle.fill_bitmap.specs.Area.{blocks_of, bitmap_sectors_of, reserved_of}
+use Rattle.fill_bitmap.specs.Area.{blocks_of, bitmap_sectors_of, reserved_of, sector_of_bits}
 use Rattle.fill_bitmap.specs.Bits.{sector_of}
 use Rattle.fill_bitmap.specs.BlockSet.{IsWithin}
 use Rattle.fill_bitmap.specs.Disk.{header_of}
 use Rattle.fill_bitmap.proofs.Bytes.{bit_written}
-use Rattle.fill_store.specs.Sectors.{sector_of_bits}
 use Rattle.fill_store.specs.Cells.{value_at, HasBits, ForgetsOld, HasBitsBetween, KeepsBits}
 use Rattle.fill_store.proofs.Values.{each_map, each_written, other_written, length-appended, each_flushed, flush_forgets, each_forgets}
 

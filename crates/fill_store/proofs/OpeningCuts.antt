@@ -7,7 +7,7 @@ use Rattle.ata_taskfile.specs.Device.{Cell}
 use Rattle.plain_drive.specs.Plain.{current}
 use Rattle.plain_drive.specs.Cut.{IsOutcome}
 use Rattle.fill_bitmap.specs.declared.area.Area.{Area}
-use Rattle.fill_bitmap.specs.Area.{bitmap_sectors_of, reserved_of}
+use Rattle.fill_bitmap.specs.Area.{bitmap_sectors_of, reserved_of, sector_of_bits}
 use Rattle.fill_bitmap.specs.Bitmap.{Sets}
 use Rattle.fill_bitmap.specs.BlockSet.{has}
 use Rattle.fill_bitmap.specs.Disk.{sector_at, header_of, HasHeader, bitmap_sector, stored_blocks, sector_seen, guest_view}
@@ -15,7 +15,7 @@ use Rattle.fill_bitmap.proofs.Disks.{none_stored}
 use Rattle.fill_bitmap.proofs.StoredBlocks.{same_stored}
 use Rattle.fill_store.specs.declared.opening.OpeningStep.{OpeningStep}
 use Rattle.fill_store.specs.declared.opening.OpeningStep.TheVariants.{ReadHeader, ReadBits, WriteZeros, FlushZeros, WriteHeader, FlushHeader, Ended}
-use Rattle.fill_store.specs.Sectors.{sector_of_bits, zero_bits}
+use Rattle.fill_store.specs.Sectors.{zero_bits}
 use Rattle.fill_store.specs.Cells.{KeepsBits}
 use Rattle.fill_store.specs.Opening.{OpeningState, job_at, next_in_opening}
 use Rattle.fill_store.specs.OpeningCells.{IsEither, alike, LeavesOldOrNew, HasOldBits, HasOldHeader, HasOnlyZeros, CellsAt, blocks_at, Opens}

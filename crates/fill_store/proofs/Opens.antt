@@ -11,7 +11,7 @@ use Rattle.plain_drive.proofs.Cells.{appended-current}
 use Rattle.own_pio.specs.declared.job.OwnJob.{OwnJob}
 use Rattle.own_pio.specs.declared.job.OwnJob.TheVariants.{Write}
 use Rattle.fill_bitmap.specs.declared.area.Area.{Area}
-use Rattle.fill_bitmap.specs.Area.{IsSuitable, blocks_of, bitmap_sectors_of, reserved_of}
+use Rattle.fill_bitmap.specs.Area.{IsSuitable, blocks_of, bitmap_sectors_of, reserved_of, sector_of_bits}
 use Rattle.fill_bitmap.specs.Bits.{has_bit}
 use Rattle.fill_bitmap.specs.Bitmap.{Sets, empty_sets, loaded}
 use Rattle.fill_bitmap.specs.BlockSet.{empty_set, with_sector}
@@ -20,7 +20,7 @@ use Rattle.fill_bitmap.proofs.Disks.{added_all, none_stored, has-empty_set}
 use Rattle.fill_bitmap.proofs.StoredBlocks.{length-stored_blocks, stored_inside, stored_block}
 use Rattle.fill_store.specs.declared.opening.OpeningStep.{OpeningStep}
 use Rattle.fill_store.specs.declared.opening.OpeningStep.TheVariants.{ReadHeader, ReadBits, WriteZeros, FlushZeros, WriteHeader, FlushHeader, Ended}
-use Rattle.fill_store.specs.Sectors.{sector_of_bits, zero_bits}
+use Rattle.fill_store.specs.Sectors.{zero_bits}
 use Rattle.fill_store.specs.Cells.{Each, MadeBy, ForgetsOld, HasBitsBetween, KeepsBits}
 use Rattle.fill_store.specs.Opening.{OpeningState, opening_of, IsReached, job_at, bytes_at, next_in_opening, bytes_to_open, read_from, zeros_from, step_after, sets_behind, opening_after, sets_after_opening}
 use Rattle.fill_store.specs.OpeningCells.{IsEither, alike, LeavesOldOrNew, HasOldBits, HasOldHeader, HasZeros, HasOnlyZeros, CellsAt, blocks_at, MadeByOpening, Opens}

@@ -10,13 +10,13 @@ use Rattle.std.proofs.lemmas.Nat.Bits.{bit_at-zero}
 use Rattle.ata_taskfile.specs.Device.{Cell}
 use Rattle.plain_drive.specs.Cut.{IsOutcome}
 use Rattle.fill_bitmap.specs.declared.area.Area.{Area}
-use Rattle.fill_bitmap.specs.Area.{blocks_of, bitmap_sectors_of, reserved_of}
+use Rattle.fill_bitmap.specs.Area.{blocks_of, bitmap_sectors_of, reserved_of, sector_of_bits}
 use Rattle.fill_bitmap.specs.Bits.{has_bit}
 use Rattle.fill_bitmap.specs.BlockSet.{has, empty_set, IsWithin}
 use Rattle.fill_bitmap.specs.Disk.{header_of, HasHeader, has_header, bitmap_sector, says_stored, stored_blocks}
 use Rattle.fill_bitmap.proofs.Disks.{has-empty_set, has_header-true}
 use Rattle.fill_bitmap.proofs.StoredBlocks.{sector_of_block, stored_block, held_inside, stored_inside}
-use Rattle.fill_store.specs.Sectors.{sector_of_bits, zero_bits}
+use Rattle.fill_store.specs.Sectors.{zero_bits}
 use Rattle.fill_store.specs.Cells.{KeepsBits, HasBitsBetween}
 use Rattle.fill_store.proofs.Values.{left_by_cut}
 

@@ -6,11 +6,10 @@ use Rattle.own_pio.specs.declared.job.OwnJob.{OwnJob}
 use Rattle.own_pio.specs.declared.job.OwnJob.TheVariants.{Read, Write, Flush}
 use Rattle.fill_bitmap.specs.declared.area.Area.{Area}
 use Rattle.fill_bitmap.specs.declared.area.TheConstants.{BLOCKS_OF_SECTOR}
-use Rattle.fill_bitmap.specs.Area.{blocks_of, bitmap_sectors_of, reserved_of}
+use Rattle.fill_bitmap.specs.Area.{blocks_of, bitmap_sectors_of, reserved_of, sector_of_bits}
 use Rattle.fill_bitmap.specs.Bits.{has_bit}
 use Rattle.fill_bitmap.specs.BlockSet.{has}
 use Rattle.fill_bitmap.specs.Disk.{header_of}
-use Rattle.fill_store.specs.Sectors.{sector_of_bits}
 
 -- the cell of a sector
 abbrev pub cell_at : ℕ → List Cell → Cell

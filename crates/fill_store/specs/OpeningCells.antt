@@ -2,13 +2,13 @@
 use Rattle.std.specs.Prelude.{ℕ, ◌≡◌, ◌<◌, ◌⊎◌, List, Bool, take, unwrap_or}
 use Rattle.ata_taskfile.specs.Device.{Cell}
 use Rattle.fill_bitmap.specs.declared.area.Area.{Area}
-use Rattle.fill_bitmap.specs.Area.{blocks_of, bitmap_sectors_of, reserved_of}
+use Rattle.fill_bitmap.specs.Area.{blocks_of, bitmap_sectors_of, reserved_of, sector_of_bits}
 use Rattle.fill_bitmap.specs.Bitmap.{Sets, these_sets}
 use Rattle.fill_bitmap.specs.BlockSet.{empty_set}
 use Rattle.fill_bitmap.specs.Disk.{header_of, HasHeader, sector_at, bitmap_sector, stored_blocks, with_sectors}
 use Rattle.fill_store.specs.declared.opening.OpeningStep.{OpeningStep}
 use Rattle.fill_store.specs.declared.opening.OpeningStep.TheVariants.{ReadHeader, ReadBits, WriteZeros, FlushZeros, WriteHeader, FlushHeader, Ended}
-use Rattle.fill_store.specs.Sectors.{sector_of_bits, zero_bits}
+use Rattle.fill_store.specs.Sectors.{zero_bits}
 use Rattle.fill_store.specs.Cells.{value_at, Each, HasBits, HasReserved, MadeBy, KeepsBits}
 use Rattle.fill_store.specs.Opening.{OpeningState, next_in_opening, bytes_to_open}
 

@@ -8,9 +8,10 @@ use Rattle.std.proofs.lemmas.List.Elements.{All-from_get_or}
 use Rattle.std.proofs.lemmas.List.Folds.{list_any_none, list_any_at}
 use Rattle.std.proofs.lemmas.List.FromFn.{length-range_with_len, get_or-range_with_len}
 use Rattle.fill_bitmap.specs.declared.area.Area.{Area}
-use Rattle.fill_bitmap.specs.Area.{IsBlock}
+use Rattle.fill_bitmap.specs.Area.{IsBlock, block_at}
 use Rattle.fill_bitmap.specs.BlockSet.{has}
-use Rattle.io_interpret.specs.Blocks.{block_at, is_empty_at, touches_empty}
+use Rattle.fill_bitmap.specs.Disk.{is_empty_at}
+use Rattle.io_interpret.specs.Blocks.{touches_empty}
 
 -- a range none of whose sectors lies in an empty block touches none
 pub none_touched : (area : Area) (filled : List Bool) (first count : ℕ)
