@@ -1,7 +1,7 @@
 -- The request for a tag, and what a frame has to say to be taken as its reply.
 use Rattle.std.specs.Prelude.{ℕ, ◌≡◌, ◌≢◌, ◌≤◌, ◌*◌, bit_and, List, [], length, take, drop}
 use Rattle.aoe_frame.specs.declared.addresses.TheConstants.{CLIENT, SERVER, SHELF, SLOT}
-use Rattle.aoe_frame.specs.declared.message.TheConstants.{ATA, EXTENDED, FAILED, REPLY, VERSION}
+use Rattle.aoe_frame.specs.declared.message.TheConstants.{ATA, BODY_AT, EXTENDED, FAILED, REPLY, VERSION}
 use Rattle.aoe_frame.specs.declared.message.Header.{Header}
 use Rattle.aoe_frame.specs.declared.message.AtaPart.{AtaPart}
 use Rattle.aoe_frame.specs.declared.message.Argument.{Argument}
@@ -78,4 +78,4 @@ Answers frame tag = (m : Aoe) × (IsMessage frame m × IsAnswer m tag)
 
 -- the two sectors of a frame that answers a tag: the first bytes of its body
 abbrev pub sectors_in : List ℕ → List ℕ
-sectors_in frame = take PART_BYTES (drop 36 frame)
+sectors_in frame = take PART_BYTES (drop BODY_AT frame)

@@ -12,7 +12,7 @@ use crate::fetch::Fetch;
 use crate::messages::{answered_by, request};
 use crate::slot::{due_in, end_slot, fill, hear_in, send_in, take_done, tick_slot};
 use crate::tags::PART_BYTES;
-use aoe_frame::Frame;
+use aoe_frame::{BODY_AT, Frame};
 use mon_pool::{Lease, Pool, a_pool_is_whole};
 use std::marker::Model;
 
@@ -150,7 +150,7 @@ impl Client {
         let Some(tag) = answered_by(frame) else {
             return Heard::Ignored;
         };
-        let sectors = &frame.as_slice()[36..36 + PART_BYTES];
+        let sectors = &frame.as_slice()[BODY_AT..BODY_AT + PART_BYTES];
         if self.hear(pool, tag, sectors) {
             Heard::Took(tag)
         } else {

@@ -5,8 +5,8 @@ ghost use Rattle.aoe_client.specs.Messages.{Answers, IsAnswer, IsRead, IsReply, 
 
 use crate::tags::{PART_BYTES, PART_SECTORS};
 use aoe_frame::{
-    ATA, Aoe, Argument, AtaPart, Bytes, CLIENT, EXTENDED, FAILED, Frame, Header, REPLY, SERVER,
-    SHELF, SLOT, VERSION, parse, write,
+    ATA, Aoe, Argument, AtaPart, BODY_AT, Bytes, CLIENT, EXTENDED, FAILED, Frame, Header, REPLY,
+    SERVER, SHELF, SLOT, VERSION, parse, write,
 };
 use image_server::{GOOD_STATUS, READ_EXTENDED};
 
@@ -40,7 +40,7 @@ pub(crate) fn request(tag: u32) -> Frame
 // The tag that a frame answers.
 pub(crate) fn answered_by(frame: &Frame) -> Option<u32>
     ensures tag { (tag : ℕ) → (result ≡ Some tag) ↔ Answers frame.now tag }
-    ensures long { (tag : ℕ) → result ≡ Some tag → 36 + PART_BYTES ≤ length frame.now }
+    ensures long { (tag : ℕ) → result ≡ Some tag → BODY_AT + PART_BYTES ≤ length frame.now }
 {
     match parse(frame) {
         Ok(message) => tag_of(&message),
