@@ -22,8 +22,8 @@ bytes_needed (suc (suc n)) = 24
 pub data IsShort (bytes : List ℕ) : Type 0 where
   BeforeType : length bytes < 14 → IsShort bytes
   InHeader : IsAoe bytes → length bytes < 24 → IsShort bytes
-  InArgument : (h : Header) → HasHeader bytes h → h.version ≡ VERSION → length bytes < bytes_needed h.command
-      → IsShort bytes
+  InArgument : (h : Header) → HasHeader bytes h → h.version ≡ VERSION
+      → length bytes < bytes_needed h.command → IsShort bytes
 
 -- a frame is of another type, whatever follows
 pub record IsOfOtherType (bytes : List ℕ) : Type 0 where

@@ -39,7 +39,8 @@ with_filled b s = record s { filled = slice_set s.filled b true }
 -- the blocks of sector `k` of the bitmap are in each set as well (own)
 abbrev pub loaded : ℕ → List ℕ → Sets → Sets
 loaded k sector s =
-    these_sets (with_sector k sector s.stored) (with_sector k sector s.frozen) (with_sector k sector s.filled)
+    these_sets (with_sector k sector s.stored) (with_sector k sector s.frozen)
+    (with_sector k sector s.filled)
 
 -- the frozen blocks are those that are filled now
 abbrev pub frozen_now : Sets → Sets

@@ -16,7 +16,8 @@ sector_at s sectors = slice_index_or sectors s []
 -- a run's header: BMCFILL1, then its number, the image's sectors and a block's sectors with the high byte first, then zeros (own)
 unfoldable pub header_of : Area → ℕ → List ℕ
 header_of area id =
-    codes "BMCFILL1" ++ to_be_bytes w64 id ++ to_be_bytes w64 area.image ++ to_be_bytes w32 area.block ++ replicate 484 0
+    codes "BMCFILL1" ++ to_be_bytes w64 id ++ to_be_bytes w64 area.image ++ to_be_bytes w32 area.block
+    ++ replicate 484 0
 
 -- the first reserved sector of a disk is the run's header (own)
 abbrev pub HasHeader : Area → ℕ → List (List ℕ) → Type 0
@@ -43,7 +44,8 @@ stored_blocks area id disk =
 -- a set to which the first so many sectors of a disk's bitmap were added, in order (own)
 abbrev pub with_sectors : ℕ → Area → List (List ℕ) → List Bool → List Bool
 with_sectors zero area disk set = set
-with_sectors (suc k) area disk set = with_sector k (bitmap_sector area disk k) (with_sectors k area disk set)
+with_sectors (suc k) area disk set =
+    with_sector k (bitmap_sector area disk k) (with_sectors k area disk set)
 
 -- a sector lies in an empty block: it is one of the image's, and the set lacks its block (own)
 abbrev pub is_empty_at : Area → List Bool → ℕ → Bool
@@ -57,7 +59,8 @@ sector_seen area set image disk s =
 -- what a guest finds on a disk after a power cut: every sector below the reserved ones, by the stored blocks (own)
 abbrev pub guest_view : Area → ℕ → List (List ℕ) → List (List ℕ) → List (List ℕ)
 guest_view area id image disk =
-    map (sector_seen area (stored_blocks area id disk) image disk) (range_with_len 0 (reserved_of area))
+    map (sector_seen area (stored_blocks area id disk) image disk)
+    (range_with_len 0 (reserved_of area))
 
 -- a disk on which a settling has written a set of blocks: the header, and each sector of the bitmap (own)
 pub record HoldsSet (area : Area) (id : ℕ) (set : List Bool) (disk : List (List ℕ)) : Type 0 where

@@ -58,14 +58,16 @@ pub record ForgetsOld (old new : List Cell) : Type 0 where
       → Contains (values (cell_at s old)) value
 
 -- bytes of the bitmap's sector `k` whose bits have each block of one set, and no block that another lacks
-pub record HasBitsBetween (area : Area) (k : ℕ) (least most : List Bool) (bytes : List ℕ) : Type 0 where
+pub record HasBitsBetween (area : Area) (k : ℕ) (least most : List Bool)
+    (bytes : List ℕ) : Type 0 where
   pub least_set : (b : ℕ) → b / BLOCKS_OF_SECTOR ≡ k → has least b ≡ true → has_bit bytes b ≡ true
   pub set_most : (b : ℕ) → b < blocks_of area → b / BLOCKS_OF_SECTOR ≡ k → has_bit bytes b ≡ true
       → has most b ≡ true
 
 -- whatever a cut leaves of header and bitmap, the blocks of one set are stored, and no block that
 -- another lacks (own)
-pub record KeepsBits (area : Area) (id : ℕ) (least most : List Bool) (cells : List Cell) : Type 0 where
+pub record KeepsBits (area : Area) (id : ℕ) (least most : List Bool)
+    (cells : List Cell) : Type 0 where
   pub reserved : HasReserved area cells
   pub blocks : length least ≡ blocks_of area
   pub header : Each (λ value. value ≡ header_of area id) (reserved_of area) cells

@@ -55,11 +55,13 @@ ata_answer Refused sectors image a = answered a ABRT FAILED_STATUS []
 
 -- room for 64 requests, firmware 1, two sectors a request, and no string (own)
 abbrev pub configuration : ConfigPart
-configuration = record { buffers = 64; firmware = 1; count = 2; version = VERSION; code = 0; length = 0 }
+configuration =
+    record { buffers = 64; firmware = 1; count = 2; version = VERSION; code = 0; length = 0 }
 
 -- the reply to a header with an argument: only reading the configuration is served of what is done with it (own)
 abbrev pub reply_to : ℕ → List ℕ → Header → Argument → Aoe
-reply_to sectors image h (Ata a) = accepted h (Ata (ata_answer (asked_in sectors a) sectors image a))
+reply_to sectors image h (Ata a) =
+    accepted h (Ata (ata_answer (asked_in sectors a) sectors image a))
 reply_to sectors image h (Config c) =
     if c.code == 0 then accepted h (Config configuration) else refusal h BAD_ARGUMENT
 reply_to sectors image h Other = refusal h UNKNOWN_COMMAND

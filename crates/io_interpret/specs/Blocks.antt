@@ -11,4 +11,5 @@ empty_block area filled s = if is_empty_at area filled s then Some (block_at are
 
 -- so many sectors from `first` on touch an empty block: one of them lies in one (own)
 abbrev pub touches_empty : Area → List Bool → ℕ → ℕ → Bool
-touches_empty area filled first count = list_any (is_empty_at area filled) (range_with_len first count)
+touches_empty area filled first count =
+    list_any (is_empty_at area filled) (range_with_len first count)
