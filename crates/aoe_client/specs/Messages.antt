@@ -13,6 +13,10 @@ use Rattle.image_server.specs.declared.request.TheConstants.{READ_EXTENDED}
 use Rattle.image_server.specs.declared.reply.TheConstants.{GOOD_STATUS}
 use Rattle.aoe_client.specs.declared.tags.TheConstants.{PART_BYTES, PART_SECTORS}
 
+-- the first of a tag's two sectors: those of tag t are 2t and 2t + 1 (own)
+abbrev pub first_sector : ℕ → ℕ
+first_sector tag = PART_SECTORS * tag
+
 -- the request for a tag: its two sectors, by an extended read (AoE r11, Issue ATA Command; own: the addresses)
 abbrev pub request_for : ℕ → Aoe
 request_for tag = record {
@@ -32,7 +36,7 @@ request_for tag = record {
     feature = 0;
     count = PART_SECTORS;
     command = READ_EXTENDED;
-    lba = 2 * tag;
+    lba = first_sector tag;
     body = [];
   });
 }
@@ -57,7 +61,7 @@ pub record IsRead (a : AtaPart) (tag : ℕ) : Type 0 where
   pub flags : a.flags ≡ EXTENDED
   pub count : a.count ≡ PART_SECTORS
   pub status : a.command ≡ GOOD_STATUS
-  pub lba : a.lba ≡ 2 * tag
+  pub lba : a.lba ≡ first_sector tag
   pub body : PART_BYTES ≤ length a.body
 
 -- the same of any argument: none but an ATA argument answers

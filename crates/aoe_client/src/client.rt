@@ -11,7 +11,7 @@ ghost use Rattle.aoe_client.specs.Messages.{Answers, request_frame, sectors_in};
 use crate::fetch::Fetch;
 use crate::messages::{answered_by, request};
 use crate::slot::{due_in, end_slot, fill, hear_in, send_in, take_done, tick_slot};
-use crate::tags::PART_BYTES;
+use crate::tags::{PART_BYTES, PART_SECTORS};
 use aoe_frame::{BODY_AT, Frame};
 use mon_pool::{Lease, Pool, a_pool_is_whole};
 use std::marker::Model;
@@ -86,7 +86,7 @@ impl Client {
         if self.asked(slot).is_some() {
             return Err((lease, Full));
         }
-        let fetch = Fetch::new(block, self.block as usize / 2, lease);
+        let fetch = Fetch::new(block, self.block as usize / PART_SECTORS as usize, lease);
         match slot {
             Slot::Demand => fill(&mut self.demand, fetch),
             Slot::Background => fill(&mut self.background, fetch),
