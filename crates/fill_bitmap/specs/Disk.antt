@@ -1,12 +1,11 @@
 -- What the sectors of a disk say: the header, the stored blocks, and what a guest reads.
-use Rattle.std.specs.Prelude.{ℕ, zero, suc, ◌≡◌, ◌<◌, ◌+◌, ◌/◌, Bool, not, ◌&&◌, if◌then◌else◌, nat_lt, List, [], ◌++◌, length, map, replicate, slice_index_or, codes}
+use Rattle.std.specs.Prelude.{ℕ, zero, suc, ◌≡◌, ◌<◌, ◌+◌, Bool, not, ◌&&◌, if◌then◌else◌, nat_lt, List, [], ◌++◌, length, map, replicate, slice_index_or, codes}
 use Rattle.std.specs.Int.{w32, w64, to_be_bytes}
 use Rattle.std.specs.List.{range_with_len}
 use Rattle.std.specs.Str.{bytes_eq}
 use Rattle.fill_bitmap.specs.declared.area.Area.{Area}
-use Rattle.fill_bitmap.specs.declared.area.TheConstants.{BLOCKS_OF_SECTOR}
 use Rattle.fill_bitmap.specs.Area.{block_at, blocks_of, bitmap_sectors_of, reserved_of, sector_of_bits}
-use Rattle.fill_bitmap.specs.Bits.{has_bit, sector_of}
+use Rattle.fill_bitmap.specs.Bits.{has_bit, sector_of, sector_with_bit}
 use Rattle.fill_bitmap.specs.BlockSet.{has, empty_set, with_sector}
 
 -- sector `s` of a list of sectors
@@ -33,7 +32,7 @@ bitmap_sector area disk k = sector_at (sector_of_bits area k) disk
 
 -- whether the bitmap on a disk has the bit of block `b` set
 abbrev pub says_stored : Area → List (List ℕ) → ℕ → Bool
-says_stored area disk b = has_bit (bitmap_sector area disk (b / BLOCKS_OF_SECTOR)) b
+says_stored area disk b = has_bit (bitmap_sector area disk (sector_with_bit b)) b
 
 -- the stored blocks of a disk: those whose bit is set, and none where the header isn't the run's (own)
 abbrev pub stored_blocks : Area → ℕ → List (List ℕ) → List Bool

@@ -8,14 +8,17 @@ pub const BLOCKS_OF_SECTOR: u64 = 4096;
 /// The most sectors that a disk may have, which is 128 MiB (own).
 pub const MOST_SECTORS: u64 = 262_144;
 
-/// An image on a disk, each with its count of sectors, and the sectors of a block (own).
+/// An image on a disk (own).
 ///
 /// The image begins at sector 0. Unless it is empty, the disk's last sectors are reserved: the header, the bitmap,
 /// which has a bit for each block of the image, and the dummy sector.
 #[derive(Clone, Copy, Debug, PartialEq, Eq)]
 pub struct Area {
+    /// The sectors of the disk.
     pub sectors: u64,
+    /// The sectors of the image.
     pub image: u64,
+    /// The sectors of a block.
     pub block: u32,
 }
 
