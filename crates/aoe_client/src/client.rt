@@ -1,6 +1,6 @@
 //! The client and its calls.
 
-ghost use Rattle.std.specs.Prelude.{◌≡◌, ◌+◌, ◌*◌, ◌<◌, ◌≤◌, ◌^◌, ◌↔◌, All, ℕ, List, IfErr, IfSome, IsErr, IsSome, IsTrue, OnErr, OnOk, None, Some, is_some, length, true, option_map, slice_get, if◌then◌else◌};
+ghost use Rattle.std.specs.Prelude.{◌≡◌, ◌+◌, ◌*◌, ◌<◌, ◌≤◌, ◌^◌, ◌↔◌, ℕ, List, IfErr, IfSome, IsErr, IsSome, OnErr, OnOk, None, Some, is_some, length, true, option_map, slice_get, if◌then◌else◌};
 ghost use Rattle.mon_pool.specs.Region.{AreOf, Region, all_given};
 ghost use Rattle.fill_bitmap.specs.Area.{IsBlock};
 ghost use Rattle.aoe_client.specs.Asking.{Asking, both_ticked, buffers_heard, done_in, due_tags, heard, in_slot, is_awaited, leases_of, next_sent, nothing_asked, tags_in, with_slot};

@@ -1,6 +1,6 @@
 //! The request for a tag, and the reply to it.
 
-ghost use Rattle.std.specs.Prelude.{◌≡◌, ◌≢◌, ◌≤◌, ◌+◌, ◌*◌, ◌↔◌, ℕ, IsTrue, Some, length};
+ghost use Rattle.std.specs.Prelude.{◌≡◌, ◌≤◌, ◌+◌, ◌*◌, ◌↔◌, ℕ, IsTrue, Some, length};
 ghost use Rattle.aoe_client.specs.Messages.{Answers, IsAnswer, IsRead, IsReply, first_sector, request_frame};
 
 use crate::tags::{PART_BYTES, PART_SECTORS};

@@ -1,7 +1,7 @@
 //! The parts of a reply that need no sector.
 
-ghost use Rattle.std.specs.Prelude.{◌≡◌, ◌<◌};
-ghost use Rattle.image_server.specs.Reply.{accepted, answered, configuration, refusal, reply_header};
+ghost use Rattle.std.specs.Prelude.{◌≡◌};
+ghost use Rattle.image_server.specs.Reply.{accepted, answered, refusal, reply_header};
 
 use crate::body::Body;
 use aoe_frame::{

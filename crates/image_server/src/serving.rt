@@ -1,9 +1,9 @@
 //! A frame served.
 
-ghost use Rattle.std.specs.Prelude.{if◌then◌else◌, ◌==◌, ℕ, List, Ok, Err, ◌^◌, ◌≡◌, ◌≤◌, ◌<◌, ◌+◌, ◌*◌, length, option_map, IfOk, IfErr, OnErr, IfSome};
-ghost use Rattle.bm_host.specs.Outside.{Counted, IfTold, Reads, SameBytes, bytes_at, looked_at};
+ghost use Rattle.std.specs.Prelude.{if◌then◌else◌, ◌==◌, ℕ, List, Ok, Err, ◌^◌, ◌≡◌, ◌≤◌, ◌<◌, ◌+◌, ◌*◌, length, option_map, IfOk, OnErr};
+ghost use Rattle.bm_host.specs.Outside.{Counted, IfTold, Reads, SameBytes, bytes_at};
 ghost use Rattle.aoe_frame.specs.declared.message.Header.{Header as HeaderOf};
-ghost use Rattle.aoe_frame.specs.Layout.{ArgumentFits, AtaFits, Fits, HeaderFits, IsOf, IsWritable, frame_of};
+ghost use Rattle.aoe_frame.specs.Layout.{AtaFits, Fits, HeaderFits, IsOf, IsWritable, frame_of};
 ghost use Rattle.image_server.specs.Request.{asked_in};
 ghost use Rattle.image_server.specs.Reply.{ata_answer, accepted, configuration, if_heard, refusal, reply, reply_to, sectors_in, sectors_sent};
 ghost use Rattle.image_server.specs.Serving.{HasImage, HasSectors, IsAnswer, LooksAtMost, LooksAtSent, OverImage};
