@@ -23,7 +23,7 @@ pub struct Area {
 }
 
 impl Area {
-    ghost use Rattle.fill_bitmap.specs.Area.{IsBlock, IsSuitable, blocks_of, bitmap_sectors_of, reserved_of, sectors_needed};
+    ghost use Rattle.fill_bitmap.specs.Area.{IsBlock, IsSuitable, block_at, blocks_of, bitmap_sectors_of, reserved_of, sectors_needed};
 
     /// How many blocks the image has (own).
     pub fn blocks(&self) -> u32
@@ -32,6 +32,16 @@ impl Area {
         ensures whole { result * self.now.block ≡ self.now.image }
     {
         (self.image / u64::from(self.block)) as u32
+    }
+
+    /// The block in which a sector of the image lies (own).
+    pub fn block_at(&self, sector: u64) -> u32
+        requires suitable { IsSuitable self.now }
+        requires inside { sector < self.now.image }
+        ensures block { result ≡ block_at self.now sector }
+        ensures below { result < blocks_of self.now }
+    {
+        (sector / u64::from(self.block)) as u32
     }
 
     /// How many sectors the bitmap has (own).
