@@ -1,5 +1,5 @@
 -- What the sectors of a disk say: the header, the stored blocks, and what a guest reads.
-use Rattle.std.specs.Prelude.{ℕ, zero, suc, ◌≡◌, ◌<◌, ◌+◌, Bool, not, ◌&&◌, if◌then◌else◌, nat_lt, List, [], ◌++◌, length, map, replicate, slice_index_or, codes}
+use Rattle.std.specs.Prelude.{ℕ, zero, suc, ◌≡◌, ◌<◌, Bool, not, ◌&&◌, if◌then◌else◌, nat_lt, List, [], ◌++◌, length, map, replicate, slice_index_or, codes}
 use Rattle.std.specs.Int.{w32, w64, to_be_bytes}
 use Rattle.std.specs.List.{range_with_len}
 use Rattle.std.specs.Str.{bytes_eq}
