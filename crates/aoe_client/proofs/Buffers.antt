@@ -79,7 +79,8 @@ module _ (source : ℕ → List ℕ) (tag : ℕ) (sectors : List ℕ) (long : le
       ]
 
   -- and another slot's buffer is as it was
-  pub other_holds : (g : Fetching) → g.lease.slot ≢ f.lease.slot → Holds source (Some g) pool → Holds source (Some g) (with_sectors tag sectors f pool)
+  pub other_holds : (g : Fetching) → g.lease.slot ≢ f.lease.slot → Holds source (Some g) pool
+      → Holds source (Some g) (with_sectors tag sectors f pool)
   other_holds g apart holds i is =
       ap (part i) (others_bytes pool f.lease (with_part (tag - first_tag f) sectors (bytes_of f.lease pool)) whole of full g.lease apart)
       ∙ holds i is

@@ -44,7 +44,8 @@ if_heard_is false x m is = cc
 
 -- what an answer keeps of the request
 kept_registers : (sectors : ℕ) (image : List ℕ) (a : AtaPart) → ((ata_answer (asked_in sectors a) sectors image a).lba ≡ a.lba)
-    × ((ata_answer (asked_in sectors a) sectors image a).count ≡ a.count) × ((ata_answer (asked_in sectors a) sectors image a).flags ≡ a.flags)
+    × ((ata_answer (asked_in sectors a) sectors image a).count ≡ a.count)
+    × ((ata_answer (asked_in sectors a) sectors image a).flags ≡ a.flags)
 kept_registers sectors image a = elim (cases_Bool (is_read a)) [
   | inl reads ↦ elim (cases_Bool (nat_le (a.lba + a.count) sectors)) [
     | inl fits ↦ rw (reads, fits) (refl, refl, refl)
@@ -90,12 +91,14 @@ module _ (sectors : ℕ) (image : List ℕ) (tag : ℕ) where
   reply_sectors h (Ata a) taken fits fits_t has read = ata_sectors a taken fits fits_t has read
   reply_sectors h Other taken fits fits_t has read = absurd (nothing_read taken [] (omega arith) has read)
   reply_sectors h (Config c) taken fits fits_t has read = elim (cases_Bool (c.code == 0)) [
-    | inl first ↦ let has_first = rw first at has in absurd (nothing_read taken (argument_written (Config configuration)) (lit< tt) has_first read)
+    | inl first ↦ let has_first = rw first at has in
+        absurd (nothing_read taken (argument_written (Config configuration)) (lit< tt) has_first read)
     | inr other ↦ let has_other = rw other at has in absurd (nothing_read taken [] (lit< tt) has_other read)
   ]
 
   -- of each reading of a request
-  read_sectors : (r : Result Aoe FrameFault) (asked : List ℕ) (m : Aoe) (taken : Argument) → IsReading asked r → reply sectors image r ≡ Some m
+  read_sectors : (r : Result Aoe FrameFault) (asked : List ℕ) (m : Aoe) (taken : Argument) → IsReading asked r
+      → reply sectors image r ≡ Some m
       → ArgumentFits taken → HasArgument (argument_written m.argument) taken → IsReadOf taken tag
       → drop 12 (argument_written m.argument) ≡ bytes_at (1024 * tag) 1024 image
   read_sectors (Err Short) asked m taken reads is fits has read = cc

@@ -1,5 +1,5 @@
 -- What the client asks for, and what each call does to it.
-use Rattle.std.specs.Prelude.{ℕ, ◌≡◌, ◌≤◌, ◌/◌, ◌*◌, ◌⊎◌, ◌||◌, Bool, true, false, List, [], ◌∷◌, ◌++◌, length, slice_get, option_map, Option, Some, None, if◌then◌else◌}
+use Rattle.std.specs.Prelude.{ℕ, ◌≡◌, ◌≤◌, ◌/◌, ◌*◌, ◌||◌, Bool, true, false, List, [], ◌∷◌, ◌++◌, length, slice_get, option_map, Option, Some, None, if◌then◌else◌}
 use Rattle.std.specs.List.{list_all}
 use Rattle.mon_pool.specs.Region.{Held, Region}
 use Rattle.aoe_client.specs.declared.client.Slot.{Slot}
@@ -7,7 +7,7 @@ use Rattle.aoe_client.specs.declared.client.Slot.TheVariants.{Demand, Background
 use Rattle.aoe_client.specs.declared.client.Heard.{Heard}
 use Rattle.aoe_client.specs.declared.client.Heard.TheVariants.{Took, Ignored}
 use Rattle.aoe_client.specs.declared.tags.TagState.TheVariants.{Answered}
-use Rattle.aoe_client.specs.declared.tags.TheConstants.{PART_BYTES}
+use Rattle.aoe_client.specs.declared.tags.TheConstants.{PART_BYTES, PART_SECTORS}
 use Rattle.aoe_client.specs.Fetching.{Fetching, due_of, is_answered, is_open, sent, state_of, ticked, with_sectors, with_tag}
 
 -- the sectors of a block, and what each slot asks for (own)
@@ -20,13 +20,9 @@ pub record Asking : Type 0 where
 abbrev pub nothing_asked : ℕ → Asking
 nothing_asked block = record { block = block; demand = None; background = None }
 
--- the sizes that a block may have, in sectors
-abbrev pub IsBlockSize : ℕ → Type 0
-IsBlockSize block = (block ≡ 8) ⊎ (block ≡ 16) ⊎ (block ≡ 32) ⊎ (block ≡ 64)
-
--- a block has so many tags, of two sectors each
+-- how many tags a block has
 abbrev pub tags_in : ℕ → ℕ
-tags_in block = block / 2
+tags_in block = block / PART_SECTORS
 
 -- what is asked for has the tags of a block
 abbrev pub HasTags : ℕ → Option Fetching → Type 0

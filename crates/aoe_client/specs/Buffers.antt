@@ -12,7 +12,8 @@ use Rattle.aoe_client.specs.Asking.{Asking}
 abbrev pub Holds : (ℕ → List ℕ) → Option Fetching → Region → Type 0
 Holds source None pool = Unit {0}
 Holds source (Some f) pool =
-    (i : ℕ) → slice_get f.tags i ≡ Some Answered → part i (bytes_of f.lease pool) ≡ source (first_tag f + i)
+    (i : ℕ) → slice_get f.tags i ≡ Some Answered
+    → part i (bytes_of f.lease pool) ≡ source (first_tag f + i)
 
 -- both slots' buffers hold it
 abbrev pub BothHold : (ℕ → List ℕ) → Asking → Region → Type 0
@@ -31,4 +32,5 @@ given_from source tag (suc n) = given_from source tag n ++ source (tag + n)
 -- a buffer that is handed over: of a block with so many tags it holds what the source gives for each of them
 abbrev pub IsFetched : (ℕ → List ℕ) → ℕ → Region → ℕ × Held → Type 0
 IsFetched source count pool fetched =
-    take (count * PART_BYTES) (bytes_of fetched.1 pool) ≡ given_from source (fetched.0 * count) count
+    take (count * PART_BYTES) (bytes_of fetched.1 pool)
+    ≡ given_from source (fetched.0 * count) count

@@ -19,7 +19,8 @@ first_tag f = f.block * length f.tags
 
 -- a block that was just asked for: all its tags are due
 abbrev pub asked_for : ℕ → ℕ → Held → Fetching
-asked_for count block lease = record { lease = lease; block = block; age = 0; tags = replicate count Due }
+asked_for count block lease =
+    record { lease = lease; block = block; age = 0; tags = replicate count Due }
 
 -- whether a tag is due
 abbrev pub is_due : TagState → Bool

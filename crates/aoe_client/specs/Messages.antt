@@ -1,7 +1,7 @@
 -- The request for a tag, and what a frame has to say to be taken as its reply.
 use Rattle.std.specs.Prelude.{ℕ, ◌≡◌, ◌≢◌, ◌≤◌, ◌*◌, bit_and, List, [], length, take, drop}
 use Rattle.aoe_frame.specs.declared.addresses.TheConstants.{CLIENT, SERVER, SHELF, SLOT}
-use Rattle.aoe_frame.specs.declared.message.TheConstants.{ATA, EXTENDED, FAILED, REPLY, VERSION}
+use Rattle.aoe_frame.specs.declared.message.TheConstants.{ATA, BODY_AT, EXTENDED, FAILED, REPLY, VERSION}
 use Rattle.aoe_frame.specs.declared.message.Header.{Header}
 use Rattle.aoe_frame.specs.declared.message.AtaPart.{AtaPart}
 use Rattle.aoe_frame.specs.declared.message.Argument.{Argument}
@@ -12,6 +12,10 @@ use Rattle.aoe_frame.specs.Reading.{IsMessage}
 use Rattle.image_server.specs.declared.request.TheConstants.{READ_EXTENDED}
 use Rattle.image_server.specs.declared.reply.TheConstants.{GOOD_STATUS}
 use Rattle.aoe_client.specs.declared.tags.TheConstants.{PART_BYTES, PART_SECTORS}
+
+-- the first of a tag's two sectors: those of tag t are 2t and 2t + 1 (own)
+abbrev pub first_sector : ℕ → ℕ
+first_sector tag = PART_SECTORS * tag
 
 -- the request for a tag: its two sectors, by an extended read (AoE r11, Issue ATA Command; own: the addresses)
 abbrev pub request_for : ℕ → Aoe
@@ -32,7 +36,7 @@ request_for tag = record {
     feature = 0;
     count = PART_SECTORS;
     command = READ_EXTENDED;
-    lba = 2 * tag;
+    lba = first_sector tag;
     body = [];
   });
 }
@@ -57,7 +61,7 @@ pub record IsRead (a : AtaPart) (tag : ℕ) : Type 0 where
   pub flags : a.flags ≡ EXTENDED
   pub count : a.count ≡ PART_SECTORS
   pub status : a.command ≡ GOOD_STATUS
-  pub lba : a.lba ≡ 2 * tag
+  pub lba : a.lba ≡ first_sector tag
   pub body : PART_BYTES ≤ length a.body
 
 -- the same of any argument: none but an ATA argument answers
@@ -78,4 +82,4 @@ Answers frame tag = (m : Aoe) × (IsMessage frame m × IsAnswer m tag)
 
 -- the two sectors of a frame that answers a tag: the first bytes of its body
 abbrev pub sectors_in : List ℕ → List ℕ
-sectors_in frame = take PART_BYTES (drop 36 frame)
+sectors_in frame = take PART_BYTES (drop BODY_AT frame)

@@ -1,8 +1,9 @@
 //! The client and its calls.
 
-ghost use Rattle.std.specs.Prelude.{◌≡◌, ◌+◌, ◌*◌, ◌<◌, ◌≤◌, ◌^◌, ◌↔◌, All, ℕ, List, IfErr, IfSome, IsErr, IsSome, IsTrue, OnErr, OnOk, None, Some, is_some, length, true, option_map, slice_get, if◌then◌else◌};
+ghost use Rattle.std.specs.Prelude.{◌≡◌, ◌+◌, ◌*◌, ◌<◌, ◌≤◌, ◌^◌, ◌↔◌, ℕ, List, IfErr, IfSome, IsErr, IsSome, OnErr, OnOk, None, Some, is_some, length, true, option_map, slice_get, if◌then◌else◌};
 ghost use Rattle.mon_pool.specs.Region.{AreOf, Region, all_given};
-ghost use Rattle.aoe_client.specs.Asking.{Asking, IsBlockSize, both_ticked, buffers_heard, done_in, due_tags, heard, in_slot, is_awaited, leases_of, next_sent, nothing_asked, tags_in, with_slot};
+ghost use Rattle.fill_bitmap.specs.Area.{IsBlock};
+ghost use Rattle.aoe_client.specs.Asking.{Asking, both_ticked, buffers_heard, done_in, due_tags, heard, in_slot, is_awaited, leases_of, next_sent, nothing_asked, tags_in, with_slot};
 ghost use Rattle.aoe_client.specs.Buffers.{BothHold, Gives, Holds, IsFetched};
 ghost use Rattle.aoe_client.specs.Fetching.{asked_for};
 ghost use Rattle.aoe_client.specs.Messages.{Answers, request_frame, sectors_in};
@@ -10,8 +11,8 @@ ghost use Rattle.aoe_client.specs.Messages.{Answers, request_frame, sectors_in};
 use crate::fetch::Fetch;
 use crate::messages::{answered_by, request};
 use crate::slot::{due_in, end_slot, fill, hear_in, send_in, take_done, tick_slot};
-use crate::tags::PART_BYTES;
-use aoe_frame::Frame;
+use crate::tags::{PART_BYTES, PART_SECTORS};
+use aoe_frame::{BODY_AT, Frame};
 use mon_pool::{Lease, Pool, a_pool_is_whole};
 use std::marker::Model;
 
@@ -48,20 +49,21 @@ pub struct Client {
 }
 
 impl Model for Client {
-    ghost use Rattle.aoe_client.specs.Asking.{Asking, HasTags, IsBlockSize};
+    ghost use Rattle.fill_bitmap.specs.Area.{IsBlock};
+    ghost use Rattle.aoe_client.specs.Asking.{Asking, HasTags};
 
     ghost Value = { Asking };
 
     ghost view = { λ c. record { block = c.block; demand = c.demand; background = c.background } };
 
     ghost invariant = { λ c.
-        IsBlockSize c.block × HasTags c.block c.demand × HasTags c.block c.background };
+        IsBlock c.block × HasTags c.block c.demand × HasTags c.block c.background };
 }
 
 impl Client {
     /// A client for blocks of so many sectors, which asks for nothing.
     pub fn new(block: u32) -> Client
-        requires { IsBlockSize block }
+        requires { IsBlock block }
         ensures { result ≡ nothing_asked block }
     {
         Client {
@@ -84,7 +86,7 @@ impl Client {
         if self.asked(slot).is_some() {
             return Err((lease, Full));
         }
-        let fetch = Fetch::new(block, self.block as usize / 2, lease);
+        let fetch = Fetch::new(block, self.block as usize / PART_SECTORS as usize, lease);
         match slot {
             Slot::Demand => fill(&mut self.demand, fetch),
             Slot::Background => fill(&mut self.background, fetch),
@@ -148,7 +150,7 @@ impl Client {
         let Some(tag) = answered_by(frame) else {
             return Heard::Ignored;
         };
-        let sectors = &frame.as_slice()[36..36 + PART_BYTES];
+        let sectors = &frame.as_slice()[BODY_AT..BODY_AT + PART_BYTES];
         if self.hear(pool, tag, sectors) {
             Heard::Took(tag)
         } else {

@@ -10,8 +10,8 @@ use arrayvec::ArrayVec;
 use mon_pool::{Lease, Pool};
 use std::marker::Model;
 
-/// The most tags that a block has (own).
-pub const MOST_TAGS: usize = 32;
+// The most tags that a block has (own).
+const MOST_TAGS: usize = 32;
 
 // A contract sees the lease, the block's number, the age, and where each tag stands (`Fetching`).
 pub(crate) struct Fetch {

@@ -15,6 +15,8 @@ ghost use Rattle.aoe_client.specs.Buffers.{BothHold};
 ghost use Rattle.aoe_client.specs.Fetching.{asked_for};
 ghost use Rattle.aoe_client.specs.Messages.{Answers, sectors_in};
 
+use crate::PART_BYTES;
+
 /// What a source gives, the buffers hold while tags are sent and ticks go by, and while a slot is asked in or freed: a
 /// block that is asked for has no answered tag yet.
 pub fn buffers_outlast()
@@ -35,5 +37,5 @@ pub fn the_servers_sectors_are_the_images()
     ensures { (sectors : ℕ) (image : List ℕ) (tag : ℕ) (r : Result AoeOf FaultOf)
         (asked bytes : List ℕ) (m : AoeOf) → IsReading asked r → reply sectors image r ≡ Some m →
         bytes ≡ frame_of m → Answers bytes tag →
-        sectors_in bytes ≡ bytes_at (1024 * tag) 1024 image }
+        sectors_in bytes ≡ bytes_at (PART_BYTES * tag) PART_BYTES image }
 {}

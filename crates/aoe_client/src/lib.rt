@@ -16,6 +16,5 @@ mod tags;
 mod tests;
 
 pub use client::{Client, Full, Heard, Slot};
-pub use fetch::MOST_TAGS;
 pub use laws::{buffers_outlast, the_servers_sectors_are_the_images};
 pub use tags::{PART_BYTES, PART_SECTORS, RESEND_AGE, TagState};

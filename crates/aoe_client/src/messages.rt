@@ -1,12 +1,12 @@
 //! The request for a tag, and the reply to it.
 
-ghost use Rattle.std.specs.Prelude.{◌≡◌, ◌≢◌, ◌≤◌, ◌+◌, ◌*◌, ◌↔◌, ℕ, IsTrue, Some, length};
-ghost use Rattle.aoe_client.specs.Messages.{Answers, IsAnswer, IsRead, IsReply, request_frame};
+ghost use Rattle.std.specs.Prelude.{◌≡◌, ◌≤◌, ◌+◌, ◌*◌, ◌↔◌, ℕ, IsTrue, Some, length};
+ghost use Rattle.aoe_client.specs.Messages.{Answers, IsAnswer, IsRead, IsReply, first_sector, request_frame};
 
 use crate::tags::{PART_BYTES, PART_SECTORS};
 use aoe_frame::{
-    ATA, Aoe, Argument, AtaPart, Bytes, CLIENT, EXTENDED, FAILED, Frame, Header, REPLY, SERVER,
-    SHELF, SLOT, VERSION, parse, write,
+    ATA, Aoe, Argument, AtaPart, BODY_AT, Bytes, CLIENT, EXTENDED, FAILED, Frame, Header, REPLY,
+    SERVER, SHELF, SLOT, VERSION, parse, write,
 };
 use image_server::{GOOD_STATUS, READ_EXTENDED};
 
@@ -31,16 +31,23 @@ pub(crate) fn request(tag: u32) -> Frame
             feature: 0,
             count: PART_SECTORS,
             command: READ_EXTENDED,
-            lba: 2 * u64::from(tag),
+            lba: first_sector(tag),
             body: Bytes::new(),
         }),
     })
 }
 
+// The first of a tag's two sectors.
+fn first_sector(tag: u32) -> u64
+    ensures { result ≡ first_sector tag }
+{
+    u64::from(PART_SECTORS) * u64::from(tag)
+}
+
 // The tag that a frame answers.
 pub(crate) fn answered_by(frame: &Frame) -> Option<u32>
     ensures tag { (tag : ℕ) → (result ≡ Some tag) ↔ Answers frame.now tag }
-    ensures long { (tag : ℕ) → result ≡ Some tag → 36 + PART_BYTES ≤ length frame.now }
+    ensures long { (tag : ℕ) → result ≡ Some tag → BODY_AT + PART_BYTES ≤ length frame.now }
 {
     match parse(frame) {
         Ok(message) => tag_of(&message),
@@ -80,6 +87,6 @@ fn is_read(part: &AtaPart, tag: u32) -> bool
     part.flags == EXTENDED
         && part.count == PART_SECTORS
         && part.command == GOOD_STATUS
-        && part.lba == 2 * u64::from(tag)
+        && part.lba == first_sector(tag)
         && part.body.as_slice().len() >= PART_BYTES
 }

@@ -33,7 +33,8 @@ same_halves a b x y fits_b fits_y e = (omega arith, omega arith)
 
 -- the header behind its two addresses
 behind : Header → List ℕ
-behind h = big_bytes 2 ETHER_TYPE ++ (halves h.version h.flags ∷ h.error ∷ (big_bytes 2 h.major ++ (h.minor ∷ h.command ∷ big_bytes 4 h.tag)))
+behind h =
+    big_bytes 2 ETHER_TYPE ++ (halves h.version h.flags ∷ h.error ∷ (big_bytes 2 h.major ++ (h.minor ∷ h.command ∷ big_bytes 4 h.tag)))
 
 same_behind : (a b : Header) → HeaderFits a → HeaderFits b → a.dest ≡ b.dest → a.source ≡ b.source → behind a ≡ behind b → a ≡ b
 unfolding behind
@@ -100,7 +101,8 @@ same_config a b fits_a fits_b e =
     }
 
 -- one argument stands in front of bytes, for a command
-same_argument : (bytes : List ℕ) (command : ℕ) (a b : Argument) → IsOf command a → IsOf command b → HasArgument bytes a → HasArgument bytes b
+same_argument : (bytes : List ℕ) (command : ℕ) (a b : Argument) → IsOf command a → IsOf command b
+    → HasArgument bytes a → HasArgument bytes b
     → ArgumentFits a → ArgumentFits b → a ≡ b
 same_argument bytes command (Ata a) (Ata b) of_a of_b has_a has_b fits_a fits_b =
     ap Ata (same_ata a b fits_a fits_b (sym has_a.0 ∙ has_b.0) (sym has_a.2 ∙ has_b.2))
@@ -151,7 +153,8 @@ header_type bytes h has =
     sym (take_fewer (drop 12 bytes)) ∙ ap (take 2) (sym left ∙ ap (drop 12) has.laid ∙ right)
 
 -- bytes behind a header that have an argument are as many as it needs
-pub argument_long : (bytes : List ℕ) (command : ℕ) (a : Argument) → IsOf command a → HasArgument bytes a → bytes_needed command ≤ 24 + length bytes
+pub argument_long : (bytes : List ℕ) (command : ℕ) (a : Argument) → IsOf command a → HasArgument bytes a
+    → bytes_needed command ≤ 24 + length bytes
 argument_long bytes command (Ata a) of has = rw of (omega (arith, has.1))
 argument_long bytes command (Config c) of has = rw of (omega (arith, ap length has, length-take 8 bytes))
 argument_long bytes zero Other of has = absurd (of.0 refl)

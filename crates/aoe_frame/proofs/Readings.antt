@@ -12,7 +12,8 @@ use Rattle.aoe_frame.specs.Reading.IsShort.{BeforeType, InHeader, InArgument}
 use Rattle.aoe_frame.proofs.Layouts.{one_header, one_message, header_long, header_type, argument_long}
 
 -- bytes with a header whose argument isn't cut aren't too short
-not_short : (bytes : List ℕ) (h : Header) → HasHeader bytes h → (h.version ≡ VERSION → bytes_needed h.command ≤ length bytes) → IsShort bytes → ⊥
+not_short : (bytes : List ℕ) (h : Header) → HasHeader bytes h → (h.version ≡ VERSION → bytes_needed h.command ≤ length bytes)
+    → IsShort bytes → ⊥
 not_short bytes h has whole (BeforeType below) = let long = header_long bytes h has in omega arith
 not_short bytes h has whole (InHeader aoe below) = let long = header_long bytes h has in omega arith
 not_short bytes h has whole (InArgument cut has_cut version below) =
@@ -45,11 +46,13 @@ not_foreign bytes foreign (InArgument h has version below) = foreign.other (head
 one_fault : (bytes : List ℕ) (a b : FrameFault) → IsReading bytes (Err a) → IsReading bytes (Err b) → a ≡ b
 one_fault bytes Short Short reads_a reads_b = refl
 one_fault bytes Short NotAoe reads_a reads_b = absurd (not_foreign bytes reads_b reads_a)
-one_fault bytes Short (Version h) reads_a reads_b = absurd (not_short bytes h reads_b.header (λ spoken. absurd (reads_b.other spoken)) reads_a)
+one_fault bytes Short (Version h) reads_a reads_b =
+    absurd (not_short bytes h reads_b.header (λ spoken. absurd (reads_b.other spoken)) reads_a)
 one_fault bytes NotAoe Short reads_a reads_b = absurd (not_foreign bytes reads_a reads_b)
 one_fault bytes NotAoe NotAoe reads_a reads_b = refl
 one_fault bytes NotAoe (Version h) reads_a reads_b = absurd (reads_a.other (header_type bytes h reads_b.header))
-one_fault bytes (Version h) Short reads_a reads_b = absurd (not_short bytes h reads_a.header (λ spoken. absurd (reads_a.other spoken)) reads_b)
+one_fault bytes (Version h) Short reads_a reads_b =
+    absurd (not_short bytes h reads_a.header (λ spoken. absurd (reads_a.other spoken)) reads_b)
 one_fault bytes (Version h) NotAoe reads_a reads_b = absurd (reads_b.other (header_type bytes h reads_a.header))
 one_fault bytes (Version h) (Version k) reads_a reads_b = ap Version (one_header bytes h k reads_a.header reads_b.header)
 
@@ -61,7 +64,8 @@ one_reading bytes (Err fault) (Ok m) reads_a reads_b = absurd (not_fault bytes m
 one_reading bytes (Err f) (Err g) reads_a reads_b = ap Err (one_fault bytes f g reads_a reads_b)
 
 -- reading answers this exactly where this is what it has to answer
-pub reads_exactly : (bytes : List ℕ) (answer a : Result Aoe FrameFault) → IsReading bytes answer → (answer ≡ a → IsReading bytes a) × (IsReading bytes a → answer ≡ a)
+pub reads_exactly : (bytes : List ℕ) (answer a : Result Aoe FrameFault) → IsReading bytes answer
+    → (answer ≡ a → IsReading bytes a) × (IsReading bytes a → answer ≡ a)
 reads_exactly bytes answer a reads = (λ is. subst (IsReading bytes) is reads, one_reading bytes answer a reads)
 
 -- a header and an argument are a message
@@ -73,5 +77,6 @@ read_whole bytes h a has spoken parts = record {
 }
 
 -- a header with a part of its argument is too short
-pub read_cut : (bytes : List ℕ) (h : Header) → HasHeader bytes h → h.version ≡ VERSION → 24 + length (drop 24 bytes) < bytes_needed h.command → IsShort bytes
+pub read_cut : (bytes : List ℕ) (h : Header) → HasHeader bytes h → h.version ≡ VERSION
+    → 24 + length (drop 24 bytes) < bytes_needed h.command → IsShort bytes
 read_cut bytes h has spoken few = InArgument h has spoken (omega (arith, length-drop 24 bytes))

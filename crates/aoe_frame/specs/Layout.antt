@@ -109,7 +109,8 @@ pub record HasHeader (bytes : List ℕ) (h : Header) : Type 0 where
 -- an argument stands in front of these bytes. Behind an ATA argument come two reserved bytes, and the rest is its body;
 -- what comes behind another means nothing
 abbrev pub HasArgument : List ℕ → Argument → Type 0
-HasArgument bytes (Ata a) = (take 10 bytes ≡ ata_bytes a) × (12 ≤ length bytes) × (drop 12 bytes ≡ a.body)
+HasArgument bytes (Ata a) =
+    (take 10 bytes ≡ ata_bytes a) × (12 ≤ length bytes) × (drop 12 bytes ≡ a.body)
 HasArgument bytes (Config c) = take 8 bytes ≡ config_bytes c
 HasArgument bytes Other = ⊤
 

@@ -1,7 +1,7 @@
 -- What reading a frame answers: the message that it says, or the first fault that holds.
 use Rattle.std.specs.Prelude.{ℕ, zero, suc, ◌≡◌, ◌≢◌, ◌<◌, ◌≤◌, List, length, take, drop, Result, Ok, Err}
 use Rattle.byteorder.specs.Endian.{big_bytes}
-use Rattle.aoe_frame.specs.declared.message.TheConstants.{ETHER_TYPE, VERSION}
+use Rattle.aoe_frame.specs.declared.message.TheConstants.{BODY_AT, ETHER_TYPE, VERSION}
 use Rattle.aoe_frame.specs.declared.message.Header.{Header}
 use Rattle.aoe_frame.specs.declared.message.Aoe.{Aoe}
 use Rattle.aoe_frame.specs.declared.message.FrameFault.{FrameFault}
@@ -14,7 +14,7 @@ IsAoe bytes = take 2 (drop 12 bytes) ≡ big_bytes 2 ETHER_TYPE
 
 -- how many bytes a frame of a command needs: the argument of 0 has 12 before its body, that of 1 has 8 (AoE r11)
 abbrev pub bytes_needed : ℕ → ℕ
-bytes_needed zero = 36
+bytes_needed zero = BODY_AT
 bytes_needed (suc zero) = 32
 bytes_needed (suc (suc n)) = 24
 
@@ -22,8 +22,8 @@ bytes_needed (suc (suc n)) = 24
 pub data IsShort (bytes : List ℕ) : Type 0 where
   BeforeType : length bytes < 14 → IsShort bytes
   InHeader : IsAoe bytes → length bytes < 24 → IsShort bytes
-  InArgument : (h : Header) → HasHeader bytes h → h.version ≡ VERSION → length bytes < bytes_needed h.command
-      → IsShort bytes
+  InArgument : (h : Header) → HasHeader bytes h → h.version ≡ VERSION
+      → length bytes < bytes_needed h.command → IsShort bytes
 
 -- a frame is of another type, whatever follows
 pub record IsOfOtherType (bytes : List ℕ) : Type 0 where

@@ -3,11 +3,12 @@
 ghost use Rattle.std.specs.Prelude.{◌≡◌, ◌≤◌, length};
 ghost use Rattle.std.specs.Option.{SomeIff};
 
+use crate::{BODY_AT, MOST_BODY};
 use arrayvec::ArrayVec;
 use std::marker::Model;
 
-/// The most bytes that a frame has: 36 in front of a body, and a body of two sectors (own).
-pub const MOST_BYTES: usize = 1060;
+/// The most bytes that a frame has: those in front of a body, and a body of two sectors (own).
+pub const MOST_BYTES: usize = BODY_AT + MOST_BODY;
 
 /// A frame of at most `MOST_BYTES` bytes, from its destination on, without what the wire adds. A contract sees the
 /// list of its bytes.

@@ -23,8 +23,8 @@ pub use bytes::Bytes;
 pub use frame::{Frame, MOST_BYTES};
 pub use laws::{a_frame_has_one_reading, a_written_message_is_read, bytes_say_one_message};
 pub use message::{
-    ATA, Aoe, Argument, AtaPart, CONFIG, ConfigPart, ETHER_TYPE, EXTENDED, FAILED, FrameFault,
-    Header, MOST_BODY, REPLY, VERSION, WRITE,
+    ATA, Aoe, Argument, AtaPart, BODY_AT, CONFIG, ConfigPart, ETHER_TYPE, EXTENDED, FAILED,
+    FrameFault, Header, MOST_BODY, REPLY, VERSION, WRITE,
 };
 pub use reading::parse;
 pub use writing::write;

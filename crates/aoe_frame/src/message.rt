@@ -26,6 +26,9 @@ pub const EXTENDED: u8 = 0x40;
 /// ATA flags: the body goes to the device (AoE r11, Issue ATA Command).
 pub const WRITE: u8 = 0x01;
 
+/// The place in a frame at which the body of an ATA argument begins (AoE r11, Issue ATA Command).
+pub const BODY_AT: usize = 36;
+
 /// The most bytes that the body of an ATA argument has: two sectors (own).
 pub const MOST_BODY: usize = 1024;
 

@@ -1,6 +1,6 @@
 //! What a frame says, from its bytes.
 
-ghost use Rattle.std.specs.Prelude.{◌≡◌, ◌≤◌, ◌<◌, ◌+◌, ◌↔◌, List, length, take, drop, MatchOption, MatchResult, IfErr, Ok, Err};
+ghost use Rattle.std.specs.Prelude.{◌≡◌, ◌≤◌, ◌<◌, ◌+◌, ◌↔◌, length, take, drop, MatchOption, MatchResult, Ok, Err};
 ghost use Rattle.aoe_frame.specs.declared.message.Header.{Header as HeaderOf};
 ghost use Rattle.aoe_frame.specs.declared.message.Aoe.{Aoe as AoeOf};
 ghost use Rattle.aoe_frame.specs.Layout.{HasHeader, HasArgument, ArgumentFits, AtaFits, ConfigFits, IsOf};

@@ -1,5 +1,5 @@
 -- What the network holds, and what each call does to it. A frame is the list of its bytes.
-use Rattle.std.specs.Prelude.{ℕ, ◌≡◌, ◌<◌, ◌≤◌, Bool, true, false, ◌==◌, List, [], ◌∷◌, ◌++◌, length, drop, remove, slice_get, Option, None, if◌then◌else◌}
+use Rattle.std.specs.Prelude.{ℕ, ◌≤◌, Bool, ◌==◌, List, [], ◌∷◌, ◌++◌, length, drop, remove, slice_get, Option, None, if◌then◌else◌}
 use Rattle.aoe_net.specs.declared.way.Way.{Way}
 use Rattle.aoe_net.specs.declared.way.Way.TheVariants.{ToServer, ToClient}
 use Rattle.aoe_net.specs.declared.ring.TheConstants.{MOST_FRAMES}

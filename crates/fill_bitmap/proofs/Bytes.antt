@@ -31,7 +31,8 @@ front : (set : List Bool) (at n : ℕ)
     → byte_of (take (suc n) (drop at set)) ≡ (if get_or set at false then 1 else 0) + 2 * byte_of (take n (drop (at + 1) set))
 front set at n = elim (cases_lt at (length set)) [
   | inl inside ↦ rw (drop_more set at false inside) refl
-  | inr past ↦ rw (drop_all at set past) (let none : drop (at + 1) set ≡ [] = drop_all (at + 1) set (omega arith) in rw (none, get_or_past set at false past) (past_byte n))
+  | inr past ↦ rw (drop_all at set past) (let none : drop (at + 1) set ≡ [] = drop_all (at + 1) set (omega arith) in
+      rw (none, get_or_past set at false past) (past_byte n))
 ]
 
 -- one bit more, at the front
@@ -48,8 +49,12 @@ bytes_are n b set bytes long each = fill_by_all (λ i. byte_from (b + 8 * i) set
 -- a byte so made has these bits, the lowest first
 pub bit_of_byte : (bits : List Bool) (n : ℕ) → (bit_at (byte_of bits) n == 1) ≡ get_or bits n false
 bit_of_byte [] n = rw bit_at-zero refl
-bit_of_byte (true ∷ bits) zero = let odd : bit_at (1 + 2 * byte_of bits) 0 ≡ 1 = bit_at_lowest (1 + 2 * byte_of bits) ∙ omega arith in rw odd refl
-bit_of_byte (false ∷ bits) zero = let even : bit_at (0 + 2 * byte_of bits) 0 ≡ 0 = bit_at_lowest (0 + 2 * byte_of bits) ∙ omega arith in rw even refl
+bit_of_byte (true ∷ bits) zero =
+    let odd : bit_at (1 + 2 * byte_of bits) 0 ≡ 1 = bit_at_lowest (1 + 2 * byte_of bits) ∙ omega arith in
+    rw odd refl
+bit_of_byte (false ∷ bits) zero =
+    let even : bit_at (0 + 2 * byte_of bits) 0 ≡ 0 = bit_at_lowest (0 + 2 * byte_of bits) ∙ omega arith in
+    rw even refl
 bit_of_byte (true ∷ bits) (suc n) =
     let half : (1 + 2 * byte_of bits) / 2 ≡ byte_of bits = omega arith in
     rw (bit_at-suc (1 + 2 * byte_of bits) n, half) (bit_of_byte bits n)
@@ -69,7 +74,8 @@ bit_from p n set few = bit_of_byte (take 8 (drop p set)) n ∙ get_or-take 8 (dr
 -- the sector of the bitmap that holds a block has its bit set where the set has it
 pub bit_written : (k b : ℕ) (set : List Bool) → b / 4096 ≡ k → has_bit (sector_of k set) b ≡ has set b
 bit_written k b set here =
-    let at : get_or (sector_of k set) (b % 4096 / 8) 0 ≡ byte_from (k * 4096 + 8 * (b % 4096 / 8)) set = byte_in 512 (k * 4096) set (b % 4096 / 8) (omega arith) in
+    let at : get_or (sector_of k set) (b % 4096 / 8) 0 ≡ byte_from (k * 4096 + 8 * (b % 4096 / 8)) set =
+    byte_in 512 (k * 4096) set (b % 4096 / 8) (omega arith) in
     let bit = bit_from (k * 4096 + 8 * (b % 4096 / 8)) (b % 8) set (omega arith) in
     let same : k * 4096 + 8 * (b % 4096 / 8) + b % 8 ≡ b = omega arith in
     ap (λ byte. bit_at byte (b % 8) == 1) at ∙ bit ∙ ap (has set) same

@@ -34,9 +34,11 @@ pub has_header-true : (area : Area) (id : ℕ) (disk : List (List ℕ)) → HasH
 has_header-true area id disk header = (bytes_eq-Decides (sector_at (reserved_of area) disk) (header_of area id)).1 header
 
 -- where a set was written, it is stored
-pub stored_set : (area : Area) (id : ℕ) (set : List Bool) (disk : List (List ℕ)) → HoldsSet area id set disk → stored_blocks area id disk ≡ set
+pub stored_set : (area : Area) (id : ℕ) (set : List Bool) (disk : List (List ℕ)) → HoldsSet area id set disk
+    → stored_blocks area id disk ≡ set
 stored_set area id set disk holds =
-    rw (has_header-true area id disk holds.header) (sym (fill_by_all (says_stored area disk) set (blocks_of area) false holds.blocks (written_bit area id set disk holds)))
+    rw (has_header-true area id disk holds.header)
+    (sym (fill_by_all (says_stored area disk) set (blocks_of area) false holds.blocks (written_bit area id set disk holds)))
 
 -- the blocks of one sector more, in which a block has the bit y
 one_more : (k b : ℕ) (x y : Bool) → (b / 4096 ≡ k → y ≡ x)
@@ -59,13 +61,15 @@ length-with_sectors (suc k) area disk set =
 -- what the first so many sectors give
 has-with_sectors : (k : ℕ) (area : Area) (disk : List (List ℕ)) (n b : ℕ) → b < n
     → has (with_sectors k area disk (empty_set n)) b ≡ (nat_lt b (k * 4096) && says_stored area disk b)
-has-with_sectors zero area disk n b inside = has-empty_set n b ∙ sym (ap (λ test. test && says_stored area disk b) (le-ltb b 0 (omega arith)))
+has-with_sectors zero area disk n b inside =
+    has-empty_set n b ∙ sym (ap (λ test. test && says_stored area disk b) (le-ltb b 0 (omega arith)))
 has-with_sectors (suc k) area disk n b inside =
     let before = has-with_sectors k area disk n b inside in
     has-with_sector k (bitmap_sector area disk k) (with_sectors k area disk (empty_set n)) b
     (omega (arith, length-with_sectors k area disk (empty_set n), length-replicate n false))
     ∙ ap (λ held. held || ((b / 4096 == k) && has_bit (bitmap_sector area disk k) b)) before
-    ∙ one_more k b (says_stored area disk b) (has_bit (bitmap_sector area disk k) b) (λ e. ap (λ i. has_bit (bitmap_sector area disk i) b) (sym e))
+    ∙ one_more k b (says_stored area disk b) (has_bit (bitmap_sector area disk k) b)
+    (λ e. ap (λ i. has_bit (bitmap_sector area disk i) b) (sym e))
 
 -- the sectors of the bitmap are enough for each block
 all_sectors : (n b : ℕ) → b < n → nat_lt b (div_ceil n 4096 * 4096) ≡ true
@@ -75,16 +79,20 @@ all_sectors n b inside = lt-ltb b (div_ceil n 4096 * 4096) (omega arith)
 pub added_all : (area : Area) (id : ℕ) (disk : List (List ℕ)) → HasHeader area id disk
     → with_sectors (bitmap_sectors_of area) area disk (empty_set (blocks_of area)) ≡ stored_blocks area id disk
 added_all area id disk header =
-    rw (has_header-true area id disk header) (fill_by_all (says_stored area disk) (with_sectors (bitmap_sectors_of area) area disk (empty_set (blocks_of area))) (blocks_of area) false
+    rw (has_header-true area id disk header)
+    (fill_by_all (says_stored area disk) (with_sectors (bitmap_sectors_of area) area disk (empty_set (blocks_of area)))
+    (blocks_of area) false
     (length-with_sectors (bitmap_sectors_of area) area disk (empty_set (blocks_of area)) ∙ length-replicate (blocks_of area) false)
     (λ b inside. has-with_sectors (bitmap_sectors_of area) area disk (blocks_of area) b inside
     ∙ ap (λ test. test && says_stored area disk b) (all_sectors (blocks_of area) b inside)))
 
 -- without the header no block is stored
-pub none_stored : (area : Area) (id : ℕ) (disk : List (List ℕ)) → (HasHeader area id disk → ⊥) → stored_blocks area id disk ≡ empty_set (blocks_of area)
+pub none_stored : (area : Area) (id : ℕ) (disk : List (List ℕ)) → (HasHeader area id disk → ⊥)
+    → stored_blocks area id disk ≡ empty_set (blocks_of area)
 none_stored area id disk none =
     let test : has_header area id disk ≡ false
-    = false_from_ne_true (has_header area id disk) (λ h. none ((bytes_eq-Decides (sector_at (reserved_of area) disk) (header_of area id)).0 h)) in
+    = false_from_ne_true (has_header area id disk)
+    (λ h. none ((bytes_eq-Decides (sector_at (reserved_of area) disk) (header_of area id)).0 h)) in
     rw test refl
 
 -- the reserved sectors stand behind the image and end with the disk
@@ -92,11 +100,13 @@ bounds : (area : Area) → IsSuitable area → (area.image ≤ reserved_of area)
 bounds area suitable = grind arith
 
 -- where no block is on the disk, a sector of the image is the image's
-seen_empty : (area : Area) (n : ℕ) (image disk : List (List ℕ)) (s : ℕ) → s < area.image → sector_seen area (empty_set n) image disk s ≡ get_or image s []
+seen_empty : (area : Area) (n : ℕ) (image disk : List (List ℕ)) (s : ℕ) → s < area.image
+    → sector_seen area (empty_set n) image disk s ≡ get_or image s []
 seen_empty area n image disk s inside = rw (has-empty_set n (s / area.block)) (rw (lt-ltb s area.image inside) refl)
 
 -- a sector behind the image is the disk's
-seen_behind : (area : Area) (set : List Bool) (image disk : List (List ℕ)) (s : ℕ) → area.image ≤ s → sector_seen area set image disk s ≡ get_or disk s []
+seen_behind : (area : Area) (set : List Bool) (image disk : List (List ℕ)) (s : ℕ) → area.image ≤ s
+    → sector_seen area set image disk s ≡ get_or disk s []
 seen_behind area set image disk s past = rw (le-ltb s area.image past) refl
 
 joined : (a r n s : ℕ) (image disk : List (List ℕ)) (area : Area) → area.image ≡ a → length image ≡ a → s < r
@@ -106,19 +116,23 @@ joined a r n s image disk area e long below = elim (cases_lt s a) [
   | inr past ↦
       let place : a + (s - a) ≡ s = omega arith in
       get_or-append_right image (drop a (take r disk)) a s [] long past ∙ get_or-drop a (take r disk) (s - a) []
-      ∙ ap (λ i. get_or (take r disk) i []) place ∙ get_or-take r disk s [] below ∙ sym (seen_behind area (empty_set n) image disk s (omega arith))
+      ∙ ap (λ i. get_or (take r disk) i []) place ∙ get_or-take r disk s [] below
+      ∙ sym (seen_behind area (empty_set n) image disk s (omega arith))
 ]
 
-joined_length : (a r : ℕ) (image disk : List (List ℕ)) → length image ≡ a → a ≤ r → r ≤ length disk → length (image ++ drop a (take r disk)) ≡ r
+joined_length : (a r : ℕ) (image disk : List (List ℕ)) → length image ≡ a → a ≤ r → r ≤ length disk
+    → length (image ++ drop a (take r disk)) ≡ r
 joined_length a r image disk long behind within =
     omega (arith, length-append image (drop a (take r disk)), length-drop a (take r disk), length-take r disk)
 
 -- without a stored block a guest reads the image's sectors, and behind it the disk's
-pub fresh_view : (area : Area) (id : ℕ) (image disk : List (List ℕ)) → IsSuitable area → HaveLengths area image disk → (HasHeader area id disk → ⊥)
+pub fresh_view : (area : Area) (id : ℕ) (image disk : List (List ℕ)) → IsSuitable area → HaveLengths area image disk
+    → (HasHeader area id disk → ⊥)
     → guest_view area id image disk ≡ image ++ drop area.image (take (reserved_of area) disk)
 fresh_view area id image disk suitable long none =
     let (behind, within) = bounds area suitable in
     ap (λ set. map (sector_seen area set image disk) (range_with_len 0 (reserved_of area))) (none_stored area id disk none)
-    ∙ sym (fill_by_all (sector_seen area (empty_set (blocks_of area)) image disk) (image ++ drop area.image (take (reserved_of area) disk)) (reserved_of area) []
+    ∙ sym (fill_by_all (sector_seen area (empty_set (blocks_of area)) image disk)
+    (image ++ drop area.image (take (reserved_of area) disk)) (reserved_of area) []
     (joined_length area.image (reserved_of area) image disk long.image_sectors behind (omega arith))
     (λ s below. joined area.image (reserved_of area) (blocks_of area) s image disk area refl long.image_sectors below))

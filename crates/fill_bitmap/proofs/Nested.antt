@@ -17,7 +17,8 @@ within_kept : (k : ℕ) (sector : List ℕ) (inner outer : List Bool) → length
     → IsWithin inner outer → IsWithin (with_sector k sector inner) (with_sector k sector outer)
 within_kept k sector inner outer same within b held = elim (cases_lt b (length inner)) [
   | inl inside ↦ has-with_sector k sector outer b (omega arith)
-      ∙ or_kept (has inner b) (has outer b) ((b / 4096 == k) && has_bit sector b) (within b) (sym (has-with_sector k sector inner b inside) ∙ held)
+      ∙ or_kept (has inner b) (has outer b) ((b / 4096 == k) && has_bit sector b) (within b)
+      (sym (has-with_sector k sector inner b inside) ∙ held)
   | inr past ↦
       let beyond = get_or_past (with_sector k sector inner) b false (omega (arith, length-with_sector k sector inner)) in
       let none : true ≡ false = sym held ∙ beyond in cc

@@ -34,7 +34,9 @@ either set None p first second = second
 either set (Some f) p first second = first
 
 found : (b : ℕ) (set : List Bool) → IfSome (next_outside b set) (IsOutside set)
-found b set = either set (first_outside b set) (first_outside 0 set) (found_at b set (position not (drop b set)) refl) (found_at 0 set (position not (drop 0 set)) refl)
+found b set =
+    either set (first_outside b set) (first_outside 0 set) (found_at b set (position not (drop b set)) refl)
+    (found_at 0 set (position not (drop 0 set)) refl)
 
 below_part : (set : List Bool) (o : Option ℕ) → IfSome o (IsOutside set) → IfSome o (λ f. f < length set)
 below_part set None h = tt

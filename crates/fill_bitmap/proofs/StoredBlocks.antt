@@ -20,7 +20,8 @@ sector_of_block area b inside = omega arith
 pub stored_block : (area : Area) (id : ℕ) (disk : List (List ℕ)) (b : ℕ) → HasHeader area id disk → b < blocks_of area
     → has (stored_blocks area id disk) b ≡ says_stored area disk b
 stored_block area id disk b header inside =
-    rw (has_header-true area id disk header) (get_or-map-range_with_len (says_stored area disk) 0 (blocks_of area) b b false inside (omega arith))
+    rw (has_header-true area id disk header) (get_or-map-range_with_len (says_stored area disk) 0
+    (blocks_of area) b b false inside (omega arith))
 
 -- a set has no block past its last
 pub held_inside : (set : List Bool) (b : ℕ) → has set b ≡ true → b < length set

@@ -1,7 +1,6 @@
 -- The three sets of blocks of a bitmap, and what each call does to them.
 use Rattle.std.specs.Prelude.{ℕ, ◌≡◌, Bool, true, List, length, slice_set}
-use Rattle.std.specs.Int.{div_ceil}
-use Rattle.fill_bitmap.specs.declared.area.TheConstants.{BLOCKS_OF_SECTOR}
+use Rattle.fill_bitmap.specs.Area.{sectors_for}
 use Rattle.fill_bitmap.specs.BlockSet.{empty_set, IsWithin, with_sector}
 
 -- the stored, the frozen and the filled blocks (own)
@@ -18,9 +17,9 @@ these_sets stored frozen filled = record { stored = stored; frozen = frozen; fil
 abbrev pub blocks_in : Sets → ℕ
 blocks_in s = length s.filled
 
--- how many sectors hold the bits of these blocks: rounded up (own)
+-- how many sectors hold the bits of these blocks
 abbrev pub sectors_in : Sets → ℕ
-sectors_in s = div_ceil (blocks_in s) BLOCKS_OF_SECTOR
+sectors_in s = sectors_for (blocks_in s)
 
 -- the stored blocks are within the frozen ones, and these within the filled ones (own)
 pub record IsNested (s : Sets) : Type 0 where
@@ -40,7 +39,8 @@ with_filled b s = record s { filled = slice_set s.filled b true }
 -- the blocks of sector `k` of the bitmap are in each set as well (own)
 abbrev pub loaded : ℕ → List ℕ → Sets → Sets
 loaded k sector s =
-    these_sets (with_sector k sector s.stored) (with_sector k sector s.frozen) (with_sector k sector s.filled)
+    these_sets (with_sector k sector s.stored) (with_sector k sector s.frozen)
+    (with_sector k sector s.filled)
 
 -- the frozen blocks are those that are filled now
 abbrev pub frozen_now : Sets → Sets

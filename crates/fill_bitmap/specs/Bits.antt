@@ -5,7 +5,11 @@ use Rattle.std.specs.List.{range_with_len}
 use Rattle.fill_bitmap.specs.declared.area.TheConstants.{BLOCKS_OF_SECTOR}
 use Rattle.fill_bitmap.specs.declared.lengths.TheConstants.{SECTOR_BYTES}
 
--- whether the sector of the bitmap that holds block `b` has its bit set: bit b mod 8 of byte b / 8, counted over all its sectors (own)
+-- the sector of the bitmap that has the bit of block `b` (own)
+abbrev pub sector_with_bit : ℕ → ℕ
+sector_with_bit b = b / BLOCKS_OF_SECTOR
+
+-- whether that sector has the bit set: bit b mod 8 of byte b / 8, counted over all sectors of the bitmap (own)
 abbrev pub has_bit : List ℕ → ℕ → Bool
 has_bit sector b = bit_at (slice_index sector (b % BLOCKS_OF_SECTOR / 8)) (b % 8) == 1
 

@@ -1,9 +1,8 @@
 -- A set of blocks: a truth value for every block of the image.
-use Rattle.std.specs.Prelude.{ℕ, ◌≡◌, ◌<◌, ◌+◌, ◌/◌, ◌==◌, Bool, true, false, not, ◌&&◌, ◌||◌, Option, List, length, map, drop, replicate, position, slice_index_or}
+use Rattle.std.specs.Prelude.{ℕ, ◌≡◌, ◌<◌, ◌+◌, ◌==◌, Bool, true, false, not, ◌&&◌, ◌||◌, Option, List, length, map, drop, replicate, position, slice_index_or}
 use Rattle.std.specs.List.{range_with_len}
 use Rattle.std.specs.Option.{option_or, option_map}
-use Rattle.fill_bitmap.specs.declared.area.TheConstants.{BLOCKS_OF_SECTOR}
-use Rattle.fill_bitmap.specs.Bits.{has_bit}
+use Rattle.fill_bitmap.specs.Bits.{has_bit, sector_with_bit}
 
 -- whether a set has the block; none has one past the last
 abbrev pub has : List Bool → ℕ → Bool
@@ -23,7 +22,7 @@ IsWithin inner outer = (b : ℕ) → has inner b ≡ true → has outer b ≡ tr
 
 -- whether a set is to have block `b`, once the bits of sector `k` of the bitmap are added to it (own)
 abbrev pub has_added : ℕ → List ℕ → List Bool → ℕ → Bool
-has_added k sector set b = has set b || ((b / BLOCKS_OF_SECTOR == k) && has_bit sector b)
+has_added k sector set b = has set b || ((sector_with_bit b == k) && has_bit sector b)
 
 -- a set with the blocks whose bits are set in sector `k` of the bitmap; bits past the last block are ignored (own)
 unfoldable pub with_sector : ℕ → List ℕ → List Bool → List Bool

@@ -8,19 +8,22 @@ pub const BLOCKS_OF_SECTOR: u64 = 4096;
 /// The most sectors that a disk may have, which is 128 MiB (own).
 pub const MOST_SECTORS: u64 = 262_144;
 
-/// An image on a disk, each with its count of sectors, and the sectors of a block (own).
+/// An image on a disk (own).
 ///
 /// The image begins at sector 0. Unless it is empty, the disk's last sectors are reserved: the header, the bitmap,
 /// which has a bit for each block of the image, and the dummy sector.
 #[derive(Clone, Copy, Debug, PartialEq, Eq)]
 pub struct Area {
+    /// The sectors of the disk.
     pub sectors: u64,
+    /// The sectors of the image.
     pub image: u64,
+    /// The sectors of a block.
     pub block: u32,
 }
 
 impl Area {
-    ghost use Rattle.fill_bitmap.specs.Area.{IsBlock, IsSuitable, blocks_of, bitmap_sectors_of, reserved_of, sectors_needed};
+    ghost use Rattle.fill_bitmap.specs.Area.{IsBlock, IsSuitable, block_at, blocks_of, bitmap_sectors_of, reserved_of, sectors_needed};
 
     /// How many blocks the image has (own).
     pub fn blocks(&self) -> u32
@@ -29,6 +32,16 @@ impl Area {
         ensures whole { result * self.now.block ≡ self.now.image }
     {
         (self.image / u64::from(self.block)) as u32
+    }
+
+    /// The block in which a sector of the image lies (own).
+    pub fn block_at(&self, sector: u64) -> u32
+        requires suitable { IsSuitable self.now }
+        requires inside { sector < self.now.image }
+        ensures block { result ≡ block_at self.now sector }
+        ensures below { result < blocks_of self.now }
+    {
+        (sector / u64::from(self.block)) as u32
     }
 
     /// How many sectors the bitmap has (own).

@@ -1,11 +1,10 @@
 //! The bitmap: which blocks of the image are stored, frozen and filled.
 
-ghost use Rattle.std.specs.Prelude.{◌≡◌, ℕ, ◌/◌, ◌<◌, ◌≤◌, ◌↔◌, false, IfOk, IfSome, IsNone, IsTrue};
-ghost use Rattle.fill_bitmap.specs.Bits.{has_bit, sector_of};
+ghost use Rattle.std.specs.Prelude.{◌≡◌, ℕ, ◌<◌, ◌≤◌, ◌↔◌, false, IfOk, IfSome, IsNone, IsTrue};
+ghost use Rattle.fill_bitmap.specs.Bits.{has_bit, sector_of, sector_with_bit};
 ghost use Rattle.fill_bitmap.specs.BlockSet.{IsWhole, has, with_sector, next_outside};
 ghost use Rattle.fill_bitmap.specs.Bitmap.{IsNested, blocks_in, sectors_in, empty_sets, with_filled, loaded, frozen_now, frozen_stored};
 
-use crate::area::BLOCKS_OF_SECTOR;
 use crate::block_set::BlockSet;
 use std::alloc::{AllocError, Global};
 use std::marker::Model;
@@ -154,7 +153,7 @@ impl Bitmap {
     pub fn frozen_sector(&self, k: u32, into: &mut [u8; 512])
         requires { k < sectors_in self.now }
         ensures bytes { into.new ≡ sector_of k self.now.frozen }
-        ensures bits { (b : ℕ) → b / BLOCKS_OF_SECTOR ≡ k →
+        ensures bits { (b : ℕ) → sector_with_bit b ≡ k →
             has_bit into.new b ≡ has self.now.frozen b }
     {
         self.frozen.put_sector(k, into);

@@ -6,12 +6,11 @@ use Rattle.ata_taskfile.specs.Device.{Cell}
 use Rattle.plain_drive.specs.Plain.{appended, all_flushed}
 use Rattle.plain_drive.proofs.Cells.{appended-current}
 use Rattle.fill_bitmap.specs.declared.area.Area.{Area}
-use Rattle.fill_bitmap.specs.Area.{blocks_of, bitmap_sectors_of, reserved_of}
+use Rattle.fill_bitmap.specs.Area.{blocks_of, bitmap_sectors_of, reserved_of, sector_of_bits}
 use Rattle.fill_bitmap.specs.Bits.{sector_of}
 use Rattle.fill_bitmap.specs.BlockSet.{IsWithin}
 use Rattle.fill_bitmap.specs.Disk.{header_of}
 use Rattle.fill_bitmap.proofs.Bytes.{bit_written}
-use Rattle.fill_store.specs.Sectors.{sector_of_bits}
 use Rattle.fill_store.specs.Cells.{value_at, HasBits, ForgetsOld, HasBitsBetween, KeepsBits}
 use Rattle.fill_store.proofs.Values.{each_map, each_written, other_written, length-appended, each_flushed, flush_forgets, each_forgets}
 
@@ -60,7 +59,8 @@ keeps_elsewhere area id least most sector bytes cells kept elsewhere = record {
   reserved = kept.reserved ∙ sym (length-appended sector bytes cells);
   blocks = kept.blocks;
   header = each_written (λ value. value ≡ header_of area id) sector (reserved_of area) bytes cells (λ e. absurd (omega arith)) kept.header;
-  bits = λ k inside. each_written (HasBitsBetween area k least most) sector (sector_of_bits area k) bytes cells (λ e. absurd (omega arith)) (kept.bits k inside);
+  bits = λ k inside. each_written (HasBitsBetween area k least most) sector (sector_of_bits area k) bytes cells
+      (λ e. absurd (omega arith)) (kept.bits k inside);
 }
 
 -- the sector that is written has the bits of the frozen blocks
@@ -76,9 +76,11 @@ pub keeps_written : (area : Area) (id : ℕ) (least set : List Bool) (k : ℕ) (
 keeps_written area id least set k cells within kept = record {
   reserved = kept.reserved ∙ sym (length-appended (sector_of_bits area k) (sector_of k set) cells);
   blocks = kept.blocks;
-  header = each_written (λ value. value ≡ header_of area id) (sector_of_bits area k) (reserved_of area) (sector_of k set) cells (λ e. absurd (omega arith)) kept.header;
+  header = each_written (λ value. value ≡ header_of area id) (sector_of_bits area k) (reserved_of area)
+      (sector_of k set) cells (λ e. absurd (omega arith)) kept.header;
   bits = λ j inside. each_written (HasBitsBetween area j least set) (sector_of_bits area k) (sector_of_bits area j) (sector_of k set) cells
-      (λ e. let same : k ≡ j = omega arith in subst (λ i. HasBitsBetween area j least set (sector_of i set)) (sym same) (frozen_between area j least set within))
+      (λ e. let same : k ≡ j = omega arith in
+      subst (λ i. HasBitsBetween area j least set (sector_of i set)) (sym same) (frozen_between area j least set within))
       (kept.bits j inside);
 }
 

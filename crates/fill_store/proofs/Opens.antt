@@ -11,7 +11,7 @@ use Rattle.plain_drive.proofs.Cells.{appended-current}
 use Rattle.own_pio.specs.declared.job.OwnJob.{OwnJob}
 use Rattle.own_pio.specs.declared.job.OwnJob.TheVariants.{Write}
 use Rattle.fill_bitmap.specs.declared.area.Area.{Area}
-use Rattle.fill_bitmap.specs.Area.{IsSuitable, blocks_of, bitmap_sectors_of, reserved_of}
+use Rattle.fill_bitmap.specs.Area.{IsSuitable, blocks_of, bitmap_sectors_of, reserved_of, sector_of_bits}
 use Rattle.fill_bitmap.specs.Bits.{has_bit}
 use Rattle.fill_bitmap.specs.Bitmap.{Sets, empty_sets, loaded}
 use Rattle.fill_bitmap.specs.BlockSet.{empty_set, with_sector}
@@ -20,7 +20,7 @@ use Rattle.fill_bitmap.proofs.Disks.{added_all, none_stored, has-empty_set}
 use Rattle.fill_bitmap.proofs.StoredBlocks.{length-stored_blocks, stored_inside, stored_block}
 use Rattle.fill_store.specs.declared.opening.OpeningStep.{OpeningStep}
 use Rattle.fill_store.specs.declared.opening.OpeningStep.TheVariants.{ReadHeader, ReadBits, WriteZeros, FlushZeros, WriteHeader, FlushHeader, Ended}
-use Rattle.fill_store.specs.Sectors.{sector_of_bits, zero_bits}
+use Rattle.fill_store.specs.Sectors.{zero_bits}
 use Rattle.fill_store.specs.Cells.{Each, MadeBy, ForgetsOld, HasBitsBetween, KeepsBits}
 use Rattle.fill_store.specs.Opening.{OpeningState, opening_of, IsReached, job_at, bytes_at, next_in_opening, bytes_to_open, read_from, zeros_from, step_after, sets_behind, opening_after, sets_after_opening}
 use Rattle.fill_store.specs.OpeningCells.{IsEither, alike, LeavesOldOrNew, HasOldBits, HasOldHeader, HasZeros, HasOnlyZeros, CellsAt, blocks_at, MadeByOpening, Opens}
@@ -34,37 +34,47 @@ leaves_forgets area id disk old new forgets leaves = record {
   reserved = leaves.reserved ∙ sym forgets.cells;
   others = λ s below. each_forgets (λ value. value ≡ sector_at s disk) s old new forgets (leaves.others s below);
   header = each_forgets (IsEither (sector_at (reserved_of area) disk) (header_of area id)) (reserved_of area) old new forgets leaves.header;
-  bits = λ k inside. each_forgets (IsEither (bitmap_sector area disk k) zero_bits) (sector_of_bits area k) old new forgets (leaves.bits k inside);
+  bits = λ k inside. each_forgets (IsEither (bitmap_sector area disk k) zero_bits) (sector_of_bits area k) old new forgets
+      (leaves.bits k inside);
 }
 
 leaves_zeros : (area : Area) (id : ℕ) (disk : List (List ℕ)) (k : ℕ) (cells : List Cell)
     → LeavesOldOrNew area id disk cells → LeavesOldOrNew area id disk (appended (sector_of_bits area k) zero_bits cells)
 leaves_zeros area id disk k cells leaves = record {
   reserved = leaves.reserved ∙ sym (length-appended (sector_of_bits area k) zero_bits cells);
-  others = λ s below. each_written (λ value. value ≡ sector_at s disk) (sector_of_bits area k) s zero_bits cells (λ e. absurd (omega arith)) (leaves.others s below);
-  header = each_written (IsEither (sector_at (reserved_of area) disk) (header_of area id)) (sector_of_bits area k) (reserved_of area) zero_bits cells (λ e. absurd (omega arith)) leaves.header;
-  bits = λ j inside. each_written (IsEither (bitmap_sector area disk j) zero_bits) (sector_of_bits area k) (sector_of_bits area j) zero_bits cells (λ e. inr refl) (leaves.bits j inside);
+  others = λ s below. each_written (λ value. value ≡ sector_at s disk) (sector_of_bits area k) s zero_bits cells
+      (λ e. absurd (omega arith)) (leaves.others s below);
+  header = each_written (IsEither (sector_at (reserved_of area) disk) (header_of area id)) (sector_of_bits area k)
+      (reserved_of area) zero_bits cells (λ e. absurd (omega arith)) leaves.header;
+  bits = λ j inside. each_written (IsEither (bitmap_sector area disk j) zero_bits) (sector_of_bits area k)
+      (sector_of_bits area j) zero_bits cells (λ e. inr refl) (leaves.bits j inside);
 }
 
 leaves_header : (area : Area) (id : ℕ) (disk : List (List ℕ)) (cells : List Cell)
     → LeavesOldOrNew area id disk cells → LeavesOldOrNew area id disk (appended (reserved_of area) (header_of area id) cells)
 leaves_header area id disk cells leaves = record {
   reserved = leaves.reserved ∙ sym (length-appended (reserved_of area) (header_of area id) cells);
-  others = λ s below. each_written (λ value. value ≡ sector_at s disk) (reserved_of area) s (header_of area id) cells (λ e. absurd (omega arith)) (leaves.others s below);
-  header = each_written (IsEither (sector_at (reserved_of area) disk) (header_of area id)) (reserved_of area) (reserved_of area) (header_of area id) cells (λ e. inr refl) leaves.header;
-  bits = λ j inside. each_written (IsEither (bitmap_sector area disk j) zero_bits) (reserved_of area) (sector_of_bits area j) (header_of area id) cells (λ e. absurd (omega arith)) (leaves.bits j inside);
+  others = λ s below. each_written (λ value. value ≡ sector_at s disk) (reserved_of area) s (header_of area id) cells
+      (λ e. absurd (omega arith)) (leaves.others s below);
+  header = each_written (IsEither (sector_at (reserved_of area) disk) (header_of area id)) (reserved_of area)
+      (reserved_of area) (header_of area id) cells (λ e. inr refl) leaves.header;
+  bits = λ j inside. each_written (IsEither (bitmap_sector area disk j) zero_bits) (reserved_of area)
+      (sector_of_bits area j) (header_of area id) cells (λ e. absurd (omega arith)) (leaves.bits j inside);
 }
 
-old_bits_forget : (area : Area) (disk : List (List ℕ)) (old new : List Cell) → ForgetsOld old new → HasOldBits area disk old → HasOldBits area disk new
+old_bits_forget : (area : Area) (disk : List (List ℕ)) (old new : List Cell) → ForgetsOld old new
+    → HasOldBits area disk old → HasOldBits area disk new
 old_bits_forget area disk old new forgets bits k inside =
     each_forgets (λ value. value ≡ bitmap_sector area disk k) (sector_of_bits area k) old new forgets (bits k inside)
 
-old_header_forgets : (area : Area) (disk : List (List ℕ)) (old new : List Cell) → ForgetsOld old new → HasOldHeader area disk old → HasOldHeader area disk new
+old_header_forgets : (area : Area) (disk : List (List ℕ)) (old new : List Cell) → ForgetsOld old new
+    → HasOldHeader area disk old → HasOldHeader area disk new
 old_header_forgets area disk old new forgets header =
     each_forgets (λ value. value ≡ sector_at (reserved_of area) disk) (reserved_of area) old new forgets header
 
 only_zeros_forget : (area : Area) (old new : List Cell) → ForgetsOld old new → HasOnlyZeros area old → HasOnlyZeros area new
-only_zeros_forget area old new forgets zeros k inside = each_forgets (λ value. value ≡ zero_bits) (sector_of_bits area k) old new forgets (zeros k inside)
+only_zeros_forget area old new forgets zeros k inside =
+    each_forgets (λ value. value ≡ zero_bits) (sector_of_bits area k) old new forgets (zeros k inside)
 
 cells_forget : (area : Area) (id : ℕ) (disk : List (List ℕ)) (step : OpeningStep) (old new : List Cell) → ForgetsOld old new
     → CellsAt area id disk step old → CellsAt area id disk step new
@@ -73,8 +83,11 @@ cells_forget area id disk ReadHeader old new forgets (header, bits) =
 cells_forget area id disk (ReadBits k) old new forgets (header, bits) = (header, old_bits_forget area disk old new forgets bits)
 cells_forget area id disk (WriteZeros k) old new forgets (none, header, zeros) =
     (none, old_header_forgets area disk old new forgets header, bits_forget k (λ i. zero_bits) area old new forgets zeros)
-cells_forget area id disk FlushZeros old new forgets (none, header, zeros) =
-    (none, old_header_forgets area disk old new forgets header, bits_forget (bitmap_sectors_of area) (λ i. zero_bits) area old new forgets zeros)
+cells_forget area id disk FlushZeros old new forgets (none, header, zeros) = (
+  none,
+  old_header_forgets area disk old new forgets header,
+  bits_forget (bitmap_sectors_of area) (λ i. zero_bits) area old new forgets zeros,
+)
 cells_forget area id disk WriteHeader old new forgets (none, zeros) = (none, only_zeros_forget area old new forgets zeros)
 cells_forget area id disk FlushHeader old new forgets (none, zeros, header) =
     (none, only_zeros_forget area old new forgets zeros, forgets.newest (reserved_of area) ∙ header)
@@ -90,7 +103,8 @@ opens_forgets disk o sets old new forgets opens = record {
   step = cells_forget o.area o.id disk o.step old new forgets opens.step;
 }
 
-disk_bits : (area : Area) (id : ℕ) (disk : List (List ℕ)) (k : ℕ) (value : List ℕ) → HasHeader area id disk → value ≡ bitmap_sector area disk k
+disk_bits : (area : Area) (id : ℕ) (disk : List (List ℕ)) (k : ℕ) (value : List ℕ) → HasHeader area id disk
+    → value ≡ bitmap_sector area disk k
     → HasBitsBetween area k (stored_blocks area id disk) (stored_blocks area id disk) value
 disk_bits area id disk k value header same = record {
   least_set = λ b at held.
@@ -110,11 +124,13 @@ zero_between area k value same = record {
 
 -- a drive whose header is the run's, and whose bitmap wasn't written since power-on, keeps the disk's stored blocks
 keeps_old : (area : Area) (id : ℕ) (disk : List (List ℕ)) (cells : List Cell) → LeavesOldOrNew area id disk cells
-    → HasHeader area id disk → HasOldBits area disk cells → KeepsBits area id (stored_blocks area id disk) (stored_blocks area id disk) cells
+    → HasHeader area id disk → HasOldBits area disk cells
+    → KeepsBits area id (stored_blocks area id disk) (stored_blocks area id disk) cells
 keeps_old area id disk cells leaves header bits = record {
   reserved = leaves.reserved;
   blocks = length-stored_blocks area id disk;
-  header = each_map (IsEither (sector_at (reserved_of area) disk) (header_of area id)) (λ value. value ≡ header_of area id) (reserved_of area) cells
+  header = each_map (IsEither (sector_at (reserved_of area) disk) (header_of area id)) (λ value. value ≡ header_of area id)
+      (reserved_of area) cells
       (λ value either. elim either [ inl e ↦ e ∙ header | inr e ↦ e ]) leaves.header;
   bits = λ k inside. each_map (λ value. value ≡ bitmap_sector area disk k)
       (HasBitsBetween area k (stored_blocks area id disk) (stored_blocks area id disk)) (sector_of_bits area k) cells
@@ -160,16 +176,20 @@ zeros_on area id disk k sets cells leaves empty none header zeros =
 header_stays : (area : Area) (disk : List (List ℕ)) (k : ℕ) (cells : List Cell) → HasOldHeader area disk cells
     → HasOldHeader area disk (appended (sector_of_bits area k) zero_bits cells)
 header_stays area disk k cells header =
-    each_written (λ value. value ≡ sector_at (reserved_of area) disk) (sector_of_bits area k) (reserved_of area) zero_bits cells (λ e. absurd (omega arith)) header
+    each_written (λ value. value ≡ sector_at (reserved_of area) disk) (sector_of_bits area k) (reserved_of area) zero_bits cells
+    (λ e. absurd (omega arith)) header
 
 only_zeros_stay : (area : Area) (id : ℕ) (cells : List Cell) → HasOnlyZeros area cells
     → HasOnlyZeros area (appended (reserved_of area) (header_of area id) cells)
 only_zeros_stay area id cells zeros k inside =
-    each_written (λ value. value ≡ zero_bits) (reserved_of area) (sector_of_bits area k) (header_of area id) cells (λ e. absurd (omega arith)) (zeros k inside)
+    each_written (λ value. value ≡ zero_bits) (reserved_of area) (sector_of_bits area k) (header_of area id) cells
+    (λ e. absurd (omega arith)) (zeros k inside)
 
 -- behind the header that was read
-header_was_read : (area : Area) (id : ℕ) (disk : List (List ℕ)) (bytes : List ℕ) (sets : Sets) (cells : List Cell) → LeavesOldOrNew area id disk cells
-    → bytes ≡ sector_at (reserved_of area) disk → sets ≡ alike (empty_set (blocks_of area)) → HasOldHeader area disk cells → HasOldBits area disk cells
+header_was_read : (area : Area) (id : ℕ) (disk : List (List ℕ)) (bytes : List ℕ) (sets : Sets) (cells : List Cell)
+    → LeavesOldOrNew area id disk cells
+    → bytes ≡ sector_at (reserved_of area) disk → sets ≡ alike (empty_set (blocks_of area)) → HasOldHeader area disk cells
+    → HasOldBits area disk cells
     → (test : Bool) → bytes_eq bytes (header_of area id) ≡ test
     → Stands area id disk sets cells (if test then read_from area 0 else zeros_from area 0)
 header_was_read area id disk bytes sets cells leaves read empty header bits true test =
@@ -232,7 +252,14 @@ step_in_hand : (area : Area) (id : ℕ) (disk : List (List ℕ)) (step : Opening
 step_in_hand area id disk ReadHeader bytes old new leaves holds (read, same) = rw same (leaves, holds)
 step_in_hand area id disk (ReadBits k) bytes old new leaves holds (read, same) = rw same (leaves, holds)
 step_in_hand area id disk (WriteZeros k) bytes old new leaves (none, header, zeros) made =
-    rw made (leaves_zeros area id disk k old leaves, (none, header_stays area disk k old header, bits_stand k (λ i. zero_bits) area old zeros))
+    rw made (
+      leaves_zeros area id disk k old leaves,
+      (
+        none,
+        header_stays area disk k old header,
+        bits_stand k (λ i. zero_bits) area old zeros,
+      ),
+    )
 step_in_hand area id disk FlushZeros bytes old new leaves holds made =
     rw made (
       leaves_forgets area id disk old (all_flushed old) (flush_forgets old) leaves,
@@ -247,7 +274,8 @@ step_in_hand area id disk FlushHeader bytes old new leaves holds made =
     )
 step_in_hand area id disk Ended bytes old new leaves holds made = rw made (leaves, holds)
 
-step_failed : (area : Area) (id : ℕ) (disk : List (List ℕ)) (step : OpeningStep) (job : Option OwnJob) (bytes : List ℕ) (old new : List Cell)
+step_failed : (area : Area) (id : ℕ) (disk : List (List ℕ)) (step : OpeningStep) (job : Option OwnJob)
+    (bytes : List ℕ) (old new : List Cell)
     → job_at area step ≡ job → LeavesOldOrNew area id disk old → CellsAt area id disk step old
     → MadeBy false job (unwrap_or (bytes_at area id step) bytes) old new
     → LeavesOldOrNew area id disk new × CellsAt area id disk step new
@@ -289,8 +317,10 @@ opens_at_power_on area id disk suitable some long =
       sectors = record {
         reserved = reserved ∙ sym long ∙ sym (length-map disk settled);
         others = λ s below. at_power_on (λ value. value ≡ sector_at s disk) s disk (omega arith) refl;
-        header = at_power_on (IsEither (sector_at (reserved_of area) disk) (header_of area id)) (reserved_of area) disk (omega arith) (inl refl);
-        bits = λ k inside. at_power_on (IsEither (bitmap_sector area disk k) zero_bits) (sector_of_bits area k) disk (omega arith) (inl refl);
+        header = at_power_on (IsEither (sector_at (reserved_of area) disk) (header_of area id))
+            (reserved_of area) disk (omega arith) (inl refl);
+        bits = λ k inside. at_power_on (IsEither (bitmap_sector area disk k) zero_bits) (sector_of_bits area k) disk
+            (omega arith) (inl refl);
       };
       step = subst (λ step. CellsAt area id disk step (stored disk)) (sym begins) (
         at_power_on (λ value. value ≡ sector_at (reserved_of area) disk) (reserved_of area) disk (omega arith) refl,
@@ -299,7 +329,8 @@ opens_at_power_on area id disk suitable some long =
     }
 
 -- the same of the states before and after, as they are called
-pub opens_ended : (ok : Bool) (disk : List (List ℕ)) (o after : OpeningState) (buffer : List ℕ) (sets sets_after : Sets) (old new : List Cell)
+pub opens_ended : (ok : Bool) (disk : List (List ℕ)) (o after : OpeningState) (buffer : List ℕ)
+    (sets sets_after : Sets) (old new : List Cell)
     → IsReached o.area o.step → after ≡ opening_after ok (take 512 buffer) o → sets_after ≡ sets_after_opening ok (take 512 buffer) o sets
     → Opens disk o sets old → MadeByOpening ok o buffer old new → Opens disk after sets_after new
 opens_ended ok disk o after buffer sets sets_after old new reached state bitmap opens made =

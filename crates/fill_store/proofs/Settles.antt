@@ -6,13 +6,12 @@ use Rattle.plain_drive.specs.Plain.{appended, all_flushed}
 use Rattle.own_pio.specs.declared.job.OwnJob.{OwnJob}
 use Rattle.own_pio.specs.declared.job.OwnJob.TheVariants.{Write}
 use Rattle.fill_bitmap.specs.declared.area.Area.{Area}
-use Rattle.fill_bitmap.specs.Area.{blocks_of, bitmap_sectors_of, reserved_of}
+use Rattle.fill_bitmap.specs.Area.{blocks_of, bitmap_sectors_of, reserved_of, sector_of_bits}
 use Rattle.fill_bitmap.specs.Bits.{sector_of}
 use Rattle.fill_bitmap.specs.Bitmap.{Sets, IsNested, blocks_in, frozen_now, frozen_stored}
 use Rattle.fill_bitmap.specs.BlockSet.{IsWithin}
 use Rattle.fill_store.specs.declared.settle.SettleStep.{SettleStep}
 use Rattle.fill_store.specs.declared.settle.SettleStep.TheVariants.{FlushData, WriteBits, FlushBits, Ended}
-use Rattle.fill_store.specs.Sectors.{sector_of_bits}
 use Rattle.fill_store.specs.Cells.{MadeBy, ForgetsOld, KeepsBits}
 use Rattle.fill_store.specs.Settle.{SettleState, settle_of, IsReached, job_at, bytes_at, next_in_settling, bytes_to_settle, bits_from, step_after, sets_behind, settle_after, sets_after_settling}
 use Rattle.fill_store.specs.SettleCells.{HasFrozen, HoldsAt, MadeBySettling, Settles, durable_behind, durable_after}
@@ -58,7 +57,8 @@ settles_elsewhere id durable s sets sector bytes cells settles elsewhere = recor
 }
 
 -- from one sector on, once those before it are written
-bits_on : (area : Area) (durable : List Bool) (k : ℕ) (sets : Sets) (cells : List Cell) → durable ≡ sets.frozen → HasFrozen k area sets cells
+bits_on : (area : Area) (durable : List Bool) (k : ℕ) (sets : Sets) (cells : List Cell) → durable ≡ sets.frozen
+    → HasFrozen k area sets cells
     → HoldsAt area durable (bits_from area k) sets cells
 bits_on area durable k sets cells all bits =
     on_test (λ step. HoldsAt area durable step sets cells) k (bitmap_sectors_of area) FlushBits (WriteBits k)
@@ -95,7 +95,8 @@ step_done id area durable (WriteBits k) bytes sets old new reached nested blocks
     rw made (
       subst (λ most. KeepsBits area id sets.stored most (appended (sector_of_bits area k) (sector_of k sets.frozen) old)) (sym all)
           (keeps_written area id sets.stored sets.frozen k old nested.stored_frozen (kept_frozen area id durable sets old all kept)),
-      bits_on area durable (k + 1) sets (appended (sector_of_bits area k) (sector_of k sets.frozen) old) all (one_more k (λ i. sector_of i sets.frozen) area old (omega arith) bits),
+      bits_on area durable (k + 1) sets (appended (sector_of_bits area k) (sector_of k sets.frozen) old) all
+          (one_more k (λ i. sector_of i sets.frozen) area old (omega arith) bits),
     )
 step_done id area durable FlushBits bytes sets old new reached nested blocks kept (all, bits) made =
     rw made (
@@ -125,7 +126,8 @@ step_in_hand id area durable FlushBits bytes sets old new nested kept holds made
     )
 step_in_hand id area durable Ended bytes sets old new nested kept within made = rw made (kept, within)
 
-step_failed : (id : ℕ) (area : Area) (durable : List Bool) (step : SettleStep) (job : Option OwnJob) (bytes : List ℕ) (sets : Sets) (old new : List Cell)
+step_failed : (id : ℕ) (area : Area) (durable : List Bool) (step : SettleStep) (job : Option OwnJob)
+    (bytes : List ℕ) (sets : Sets) (old new : List Cell)
     → job_at area step ≡ job → IsNested sets → KeepsBits area id sets.stored durable old → HoldsAt area durable step sets old
     → MadeBy false job (unwrap_or (bytes_at step sets) bytes) old new
     → KeepsBits area id sets.stored durable new × HoldsAt area durable step sets new
@@ -136,14 +138,17 @@ step_failed id area durable step (Some job) bytes sets old new next nested kept 
     (subst (λ it. MadeBy true it (unwrap_or (bytes_at step sets) bytes) old new) (sym next) done)
 
 -- a settling stands while its job is in hand
-pub settles_in_hand : (id : ℕ) (durable : List Bool) (s : SettleState) (bytes : List ℕ) (sets : Sets) (old new : List Cell) → Settles id durable s sets old
+pub settles_in_hand : (id : ℕ) (durable : List Bool) (s : SettleState) (bytes : List ℕ) (sets : Sets) (old new : List Cell)
+    → Settles id durable s sets old
     → MadeBy false (next_in_settling s) (unwrap_or (bytes_to_settle s sets) bytes) old new → Settles id durable s sets new
 settles_in_hand id durable s bytes sets old new settles made =
-    let left = step_failed id s.area durable s.step (next_in_settling s) bytes sets old new refl settles.nested settles.kept settles.step made in
+    let left = step_failed id s.area durable s.step (next_in_settling s) bytes sets old new refl
+    settles.nested settles.kept settles.step made in
     record { nested = settles.nested; blocks = settles.blocks; kept = left.0; step = left.1 }
 
 -- the data of the frozen blocks is durable, or will be
-within_frozen : (area : Area) (durable : List Bool) (step : SettleStep) (sets : Sets) (cells : List Cell) → HoldsAt area durable step sets cells
+within_frozen : (area : Area) (durable : List Bool) (step : SettleStep) (sets : Sets) (cells : List Cell)
+    → HoldsAt area durable step sets cells
     → IsWithin durable sets.frozen
 within_frozen area durable FlushData sets cells within = within
 within_frozen area durable (WriteBits k) sets cells (all, bits) = subst (λ set. IsWithin set sets.frozen) (sym all) (λ b held. held)
@@ -176,12 +181,15 @@ settles_after true id durable s bytes sets old new reached settles made =
       step = left.1;
     }
 settles_after false id durable s bytes sets old new reached settles made =
-    let left = step_failed id s.area durable s.step (next_in_settling s) bytes sets old new refl settles.nested settles.kept settles.step made in
+    let left = step_failed id s.area durable s.step (next_in_settling s) bytes sets old new refl
+    settles.nested settles.kept settles.step made in
     record { nested = settles.nested; blocks = settles.blocks; kept = left.0; step = within_frozen s.area durable s.step sets new left.1 }
 
 -- a settling begins with the blocks that are filled
-pub settles_at_first : (area : Area) (id : ℕ) (durable : List Bool) (sets : Sets) (cells : List Cell) → IsNested sets → blocks_in sets ≡ blocks_of area
-    → IsWithin durable sets.filled → KeepsBits area id sets.stored durable cells → Settles id durable (settle_of area) (frozen_now sets) cells
+pub settles_at_first : (area : Area) (id : ℕ) (durable : List Bool) (sets : Sets) (cells : List Cell)
+    → IsNested sets → blocks_in sets ≡ blocks_of area
+    → IsWithin durable sets.filled → KeepsBits area id sets.stored durable cells
+    → Settles id durable (settle_of area) (frozen_now sets) cells
 settles_at_first area id durable sets cells nested blocks within kept = record {
   nested = record {
     stored_blocks = nested.stored_blocks;

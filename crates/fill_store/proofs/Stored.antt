@@ -10,13 +10,13 @@ use Rattle.std.proofs.lemmas.Nat.Bits.{bit_at-zero}
 use Rattle.ata_taskfile.specs.Device.{Cell}
 use Rattle.plain_drive.specs.Cut.{IsOutcome}
 use Rattle.fill_bitmap.specs.declared.area.Area.{Area}
-use Rattle.fill_bitmap.specs.Area.{blocks_of, bitmap_sectors_of, reserved_of}
+use Rattle.fill_bitmap.specs.Area.{blocks_of, bitmap_sectors_of, reserved_of, sector_of_bits}
 use Rattle.fill_bitmap.specs.Bits.{has_bit}
 use Rattle.fill_bitmap.specs.BlockSet.{has, empty_set, IsWithin}
 use Rattle.fill_bitmap.specs.Disk.{header_of, HasHeader, has_header, bitmap_sector, says_stored, stored_blocks}
 use Rattle.fill_bitmap.proofs.Disks.{has-empty_set, has_header-true}
 use Rattle.fill_bitmap.proofs.StoredBlocks.{sector_of_block, stored_block, held_inside, stored_inside}
-use Rattle.fill_store.specs.Sectors.{sector_of_bits, zero_bits}
+use Rattle.fill_store.specs.Sectors.{zero_bits}
 use Rattle.fill_store.specs.Cells.{KeepsBits, HasBitsBetween}
 use Rattle.fill_store.proofs.Values.{left_by_cut}
 
@@ -29,11 +29,13 @@ no_bit b =
 
 -- a bitmap of zeros stores no block
 pub zeros_stored : (area : Area) (id : ℕ) (disk : List (List ℕ))
-    → ((k : ℕ) → k < bitmap_sectors_of area → bitmap_sector area disk k ≡ zero_bits) → stored_blocks area id disk ≡ empty_set (blocks_of area)
+    → ((k : ℕ) → k < bitmap_sectors_of area → bitmap_sector area disk k ≡ zero_bits)
+    → stored_blocks area id disk ≡ empty_set (blocks_of area)
 zeros_stored area id disk zeros =
     cond_both (has_header area id disk) (map (says_stored area disk) (range_with_len 0 (blocks_of area))) (empty_set (blocks_of area))
     (λ (set : List Bool). set ≡ empty_set (blocks_of area))
-    (λ yes. sym (fill_by_all (says_stored area disk) (empty_set (blocks_of area)) (blocks_of area) false (length-replicate (blocks_of area) false)
+    (λ yes. sym (fill_by_all (says_stored area disk) (empty_set (blocks_of area)) (blocks_of area) false
+    (length-replicate (blocks_of area) false)
     (λ b inside. has-empty_set (blocks_of area) b
     ∙ sym (ap (λ bytes. has_bit bytes b) (zeros (b / 4096) (sector_of_block area b inside)) ∙ no_bit b))))
     (λ no. refl)

@@ -23,7 +23,8 @@ newest P s cells each =
     All-contains P (values cell) (current cell) each (current_is_a_value cell)
 
 -- what each value of a sector is, and what follows from it
-pub each_map : (P Q : List ℕ → Type 0) (s : ℕ) (cells : List Cell) → ((value : List ℕ) → P value → Q value) → Each P s cells → Each Q s cells
+pub each_map : (P Q : List ℕ → Type 0) (s : ℕ) (cells : List Cell) → ((value : List ℕ) → P value → Q value)
+    → Each P s cells → Each Q s cells
 each_map P Q s cells follows each k d below = follows (get_or (values (cell_at s cells)) k d) (each k d below)
 
 -- the values of a sector after a write to one
@@ -36,7 +37,8 @@ each_written P (suc s) zero bytes (cell ∷ cells) new each = each
 each_written P (suc s) (suc other) bytes (cell ∷ cells) new each = each_written P s other bytes cells (λ e. new (ap suc e)) each
 
 -- the newest value of another sector stays where one is written
-pub other_written : (s other : ℕ) (bytes : List ℕ) (cells : List Cell) → other ≢ s → value_at other (appended s bytes cells) ≡ value_at other cells
+pub other_written : (s other : ℕ) (bytes : List ℕ) (cells : List Cell) → other ≢ s
+    → value_at other (appended s bytes cells) ≡ value_at other cells
 other_written s other bytes cells apart = ap current (appended-others s other bytes cells apart)
 
 -- a write and a flush leave as many cells
@@ -62,7 +64,8 @@ pub newest_flushed : (s : ℕ) (cells : List Cell) → value_at s (all_flushed c
 newest_flushed s cells = ap current (cell_flushed s cells)
 
 -- the newest value of a sector is all that a flush leaves of it
-pub flushed_alone : (s : ℕ) (cells : List Cell) (value : List ℕ) → Contains (values (cell_at s (all_flushed cells))) value → value ≡ value_at s cells
+pub flushed_alone : (s : ℕ) (cells : List Cell) (value : List ℕ) → Contains (values (cell_at s (all_flushed cells))) value
+    → value ≡ value_at s cells
 flushed_alone s cells value held =
     contained_alone (value_at s cells) value (subst (λ cell. Contains (values cell) value) (cell_flushed s cells) held)
 
@@ -98,7 +101,8 @@ left_by_cut P s cells outcome below each left =
     All-contains P (values (cell_at s cells)) (sector_at s outcome) each (in_outcome s cells outcome below left)
 
 -- at power-on a sector has one value
-pub at_power_on : (P : List ℕ → Type 0) (s : ℕ) (disk : List (List ℕ)) → s < length disk → P (sector_at s disk) → Each P s (map settled disk)
+pub at_power_on : (P : List ℕ → Type 0) (s : ℕ) (disk : List (List ℕ)) → s < length disk → P (sector_at s disk)
+    → Each P s (map settled disk)
 at_power_on P s [] below here = absurd (omega arith)
 at_power_on P zero (value ∷ disk) below here = alone P value here
 at_power_on P (suc s) (value ∷ disk) below here = at_power_on P s disk (omega arith) here

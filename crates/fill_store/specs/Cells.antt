@@ -1,16 +1,14 @@
 -- What the monitor's own commands make of the drive's sectors, and what a power cut may leave of these.
-use Rattle.std.specs.Prelude.{ℕ, ◌≡◌, ◌<◌, ◌+◌, ◌/◌, ◌⊎◌, Bool, true, false, Option, Some, None, List, [], length, All, Contains, slice_index_or}
+use Rattle.std.specs.Prelude.{ℕ, ◌≡◌, ◌<◌, ◌+◌, ◌⊎◌, Bool, true, false, Option, Some, None, List, [], length, All, Contains, slice_index_or}
 use Rattle.ata_taskfile.specs.Device.{Cell}
 use Rattle.plain_drive.specs.Plain.{current, values, settled, appended, all_flushed}
 use Rattle.own_pio.specs.declared.job.OwnJob.{OwnJob}
 use Rattle.own_pio.specs.declared.job.OwnJob.TheVariants.{Read, Write, Flush}
 use Rattle.fill_bitmap.specs.declared.area.Area.{Area}
-use Rattle.fill_bitmap.specs.declared.area.TheConstants.{BLOCKS_OF_SECTOR}
-use Rattle.fill_bitmap.specs.Area.{blocks_of, bitmap_sectors_of, reserved_of}
-use Rattle.fill_bitmap.specs.Bits.{has_bit}
+use Rattle.fill_bitmap.specs.Area.{blocks_of, bitmap_sectors_of, reserved_of, sector_of_bits}
+use Rattle.fill_bitmap.specs.Bits.{has_bit, sector_with_bit}
 use Rattle.fill_bitmap.specs.BlockSet.{has}
 use Rattle.fill_bitmap.specs.Disk.{header_of}
-use Rattle.fill_store.specs.Sectors.{sector_of_bits}
 
 -- the cell of a sector
 abbrev pub cell_at : ℕ → List Cell → Cell
@@ -59,14 +57,16 @@ pub record ForgetsOld (old new : List Cell) : Type 0 where
       → Contains (values (cell_at s old)) value
 
 -- bytes of the bitmap's sector `k` whose bits have each block of one set, and no block that another lacks
-pub record HasBitsBetween (area : Area) (k : ℕ) (least most : List Bool) (bytes : List ℕ) : Type 0 where
-  pub least_set : (b : ℕ) → b / BLOCKS_OF_SECTOR ≡ k → has least b ≡ true → has_bit bytes b ≡ true
-  pub set_most : (b : ℕ) → b < blocks_of area → b / BLOCKS_OF_SECTOR ≡ k → has_bit bytes b ≡ true
+pub record HasBitsBetween (area : Area) (k : ℕ) (least most : List Bool)
+    (bytes : List ℕ) : Type 0 where
+  pub least_set : (b : ℕ) → sector_with_bit b ≡ k → has least b ≡ true → has_bit bytes b ≡ true
+  pub set_most : (b : ℕ) → b < blocks_of area → sector_with_bit b ≡ k → has_bit bytes b ≡ true
       → has most b ≡ true
 
 -- whatever a cut leaves of header and bitmap, the blocks of one set are stored, and no block that
 -- another lacks (own)
-pub record KeepsBits (area : Area) (id : ℕ) (least most : List Bool) (cells : List Cell) : Type 0 where
+pub record KeepsBits (area : Area) (id : ℕ) (least most : List Bool)
+    (cells : List Cell) : Type 0 where
   pub reserved : HasReserved area cells
   pub blocks : length least ≡ blocks_of area
   pub header : Each (λ value. value ≡ header_of area id) (reserved_of area) cells

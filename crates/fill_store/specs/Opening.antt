@@ -4,12 +4,12 @@ use Rattle.std.specs.Str.{bytes_eq}
 use Rattle.own_pio.specs.declared.job.OwnJob.{OwnJob}
 use Rattle.own_pio.specs.declared.job.OwnJob.TheVariants.{Read, Write, Flush}
 use Rattle.fill_bitmap.specs.declared.area.Area.{Area}
-use Rattle.fill_bitmap.specs.Area.{IsSuitable, bitmap_sectors_of, reserved_of}
+use Rattle.fill_bitmap.specs.Area.{IsSuitable, bitmap_sectors_of, reserved_of, sector_of_bits}
 use Rattle.fill_bitmap.specs.Bitmap.{Sets, loaded}
 use Rattle.fill_bitmap.specs.Disk.{header_of}
 use Rattle.fill_store.specs.declared.opening.OpeningStep.{OpeningStep}
 use Rattle.fill_store.specs.declared.opening.OpeningStep.TheVariants.{ReadHeader, ReadBits, WriteZeros, FlushZeros, WriteHeader, FlushHeader, Ended}
-use Rattle.fill_store.specs.Sectors.{sector_of_bits, zero_bits}
+use Rattle.fill_store.specs.Sectors.{zero_bits}
 
 -- the opening of a run on a disk, and its next step
 pub record OpeningState : Type 0 where

@@ -2,13 +2,13 @@
 use Rattle.std.specs.Prelude.{ℕ, ◌≡◌, ◌<◌, ◌⊎◌, List, Bool, take, unwrap_or}
 use Rattle.ata_taskfile.specs.Device.{Cell}
 use Rattle.fill_bitmap.specs.declared.area.Area.{Area}
-use Rattle.fill_bitmap.specs.Area.{blocks_of, bitmap_sectors_of, reserved_of}
+use Rattle.fill_bitmap.specs.Area.{blocks_of, bitmap_sectors_of, reserved_of, sector_of_bits}
 use Rattle.fill_bitmap.specs.Bitmap.{Sets, these_sets}
 use Rattle.fill_bitmap.specs.BlockSet.{empty_set}
 use Rattle.fill_bitmap.specs.Disk.{header_of, HasHeader, sector_at, bitmap_sector, stored_blocks, with_sectors}
 use Rattle.fill_store.specs.declared.opening.OpeningStep.{OpeningStep}
 use Rattle.fill_store.specs.declared.opening.OpeningStep.TheVariants.{ReadHeader, ReadBits, WriteZeros, FlushZeros, WriteHeader, FlushHeader, Ended}
-use Rattle.fill_store.specs.Sectors.{sector_of_bits, zero_bits}
+use Rattle.fill_store.specs.Sectors.{zero_bits}
 use Rattle.fill_store.specs.Cells.{value_at, Each, HasBits, HasReserved, MadeBy, KeepsBits}
 use Rattle.fill_store.specs.Opening.{OpeningState, next_in_opening, bytes_to_open}
 
@@ -22,10 +22,12 @@ alike set = these_sets set set set
 
 -- whatever a cut in an opening leaves: sectors below the reserved ones as they were at power-on, the
 -- header old or the run's, and each sector of the bitmap old or zeros (own)
-pub record LeavesOldOrNew (area : Area) (id : ℕ) (disk : List (List ℕ)) (cells : List Cell) : Type 0 where
+pub record LeavesOldOrNew (area : Area) (id : ℕ) (disk : List (List ℕ))
+    (cells : List Cell) : Type 0 where
   pub reserved : HasReserved area cells
   pub others : (s : ℕ) → s < reserved_of area → Each (λ value. value ≡ sector_at s disk) s cells
-  pub header : Each (IsEither (sector_at (reserved_of area) disk) (header_of area id)) (reserved_of area) cells
+  pub header : Each (IsEither (sector_at (reserved_of area) disk) (header_of area id))
+      (reserved_of area) cells
   pub bits : (k : ℕ) → k < bitmap_sectors_of area
       → Each (IsEither (bitmap_sector area disk k) zero_bits) (sector_of_bits area k) cells
 
@@ -47,7 +49,8 @@ HasZeros n area cells = HasBits n (λ k. zero_bits) area cells
 -- a cut leaves nothing else of the bitmap than zeros
 abbrev pub HasOnlyZeros : Area → List Cell → Type 0
 HasOnlyZeros area cells =
-    (k : ℕ) → k < bitmap_sectors_of area → Each (λ value. value ≡ zero_bits) (sector_of_bits area k) cells
+    (k : ℕ) → k < bitmap_sectors_of area
+    → Each (λ value. value ≡ zero_bits) (sector_of_bits area k) cells
 
 -- what holds of the drive's sectors at each step, where they were `disk` at power-on (own)
 abbrev pub CellsAt : Area → ℕ → List (List ℕ) → OpeningStep → List Cell → Type 0
@@ -56,7 +59,8 @@ CellsAt area id disk (ReadBits k) cells = HasHeader area id disk × HasOldBits a
 CellsAt area id disk (WriteZeros k) cells =
     (¬ HasHeader area id disk) × HasOldHeader area disk cells × HasZeros k area cells
 CellsAt area id disk FlushZeros cells =
-    (¬ HasHeader area id disk) × HasOldHeader area disk cells × HasZeros (bitmap_sectors_of area) area cells
+    (¬ HasHeader area id disk) × HasOldHeader area disk cells
+    × HasZeros (bitmap_sectors_of area) area cells
 CellsAt area id disk WriteHeader cells = (¬ HasHeader area id disk) × HasOnlyZeros area cells
 CellsAt area id disk FlushHeader cells =
     (¬ HasHeader area id disk) × HasOnlyZeros area cells
@@ -77,7 +81,8 @@ blocks_at area id disk Ended = stored_blocks area id disk
 
 -- an opening whose drive had the sectors `disk` at power-on, with the bitmap and the drive's sectors as
 -- they are (own)
-pub record Opens (disk : List (List ℕ)) (o : OpeningState) (sets : Sets) (cells : List Cell) : Type 0 where
+pub record Opens (disk : List (List ℕ)) (o : OpeningState) (sets : Sets)
+    (cells : List Cell) : Type 0 where
   pub bitmap : sets ≡ alike (blocks_at o.area o.id disk o.step)
   pub sectors : LeavesOldOrNew o.area o.id disk cells
   pub step : CellsAt o.area o.id disk o.step cells

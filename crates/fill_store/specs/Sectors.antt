@@ -5,10 +5,6 @@ use Rattle.fill_bitmap.specs.Area.{bitmap_sectors_of, reserved_of}
 use Rattle.own_pio.specs.declared.job.OwnJob.{OwnJob}
 use Rattle.own_pio.specs.declared.job.OwnJob.TheVariants.{Read, Write, Flush}
 
--- where sector `k` of the bitmap stands: behind the header (own)
-abbrev pub sector_of_bits : Area → ℕ → ℕ
-sector_of_bits area k = reserved_of area + 1 + k
-
 -- the sector of a bitmap without a block (own)
 unfoldable pub zero_bits : List ℕ
 zero_bits = replicate 512 0

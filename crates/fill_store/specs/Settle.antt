@@ -3,12 +3,11 @@ use Rattle.std.specs.Prelude.{ℕ, ◌<◌, ◌+◌, ◌-◌, ◌==◌, Bool, tr
 use Rattle.own_pio.specs.declared.job.OwnJob.{OwnJob}
 use Rattle.own_pio.specs.declared.job.OwnJob.TheVariants.{Write, Flush}
 use Rattle.fill_bitmap.specs.declared.area.Area.{Area}
-use Rattle.fill_bitmap.specs.Area.{IsSuitable, bitmap_sectors_of}
+use Rattle.fill_bitmap.specs.Area.{IsSuitable, bitmap_sectors_of, sector_of_bits}
 use Rattle.fill_bitmap.specs.Bits.{sector_of}
 use Rattle.fill_bitmap.specs.Bitmap.{Sets, frozen_stored}
 use Rattle.fill_store.specs.declared.settle.SettleStep.{SettleStep}
 use Rattle.fill_store.specs.declared.settle.SettleStep.TheVariants.{FlushData, WriteBits, FlushBits, Ended}
-use Rattle.fill_store.specs.Sectors.{sector_of_bits}
 
 -- a settling on a disk, and its next step
 pub record SettleState : Type 0 where

@@ -19,7 +19,8 @@ HasFrozen n area sets cells = HasBits n (λ k. sector_of k sets.frozen) area cel
 -- durable: no bit is written before the data of the frozen blocks is (own)
 abbrev pub HoldsAt : Area → List Bool → SettleStep → Sets → List Cell → Type 0
 HoldsAt area durable FlushData sets cells = IsWithin durable sets.frozen
-HoldsAt area durable (WriteBits k) sets cells = (durable ≡ sets.frozen) × HasFrozen k area sets cells
+HoldsAt area durable (WriteBits k) sets cells =
+    (durable ≡ sets.frozen) × HasFrozen k area sets cells
 HoldsAt area durable FlushBits sets cells =
     (durable ≡ sets.frozen) × HasFrozen (bitmap_sectors_of area) area sets cells
 HoldsAt area durable Ended sets cells = IsWithin durable sets.frozen

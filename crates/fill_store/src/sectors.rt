@@ -1,8 +1,7 @@
 //! The reserved sectors that the monitor reads and writes, and the buffer with the bytes of one.
 
 ghost use Rattle.std.specs.Prelude.{◌≡◌, ◌<◌, ◌≤◌, ◌++◌, length, take, drop};
-ghost use Rattle.fill_bitmap.specs.Area.{IsSuitable, bitmap_sectors_of};
-ghost use Rattle.fill_store.specs.Sectors.{sector_of_bits};
+ghost use Rattle.fill_bitmap.specs.Area.{IsSuitable, bitmap_sectors_of, sector_of_bits};
 
 use fill_bitmap::Area;
 

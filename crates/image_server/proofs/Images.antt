@@ -19,7 +19,8 @@ over_map sectors (Some image) P Q follows over = follows image over
 image_with : ℕ → ℕ → List ℕ → List ℕ
 image_with sectors place bytes = replicate place 0 ++ (bytes ++ replicate (512 * sectors - place - length bytes) 0)
 
-length-image_with : (sectors place : ℕ) (bytes : List ℕ) → place + length bytes ≤ 512 * sectors → length (image_with sectors place bytes) ≡ 512 * sectors
+length-image_with : (sectors place : ℕ) (bytes : List ℕ) → place + length bytes ≤ 512 * sectors
+    → length (image_with sectors place bytes) ≡ 512 * sectors
 unfolding image_with
 length-image_with sectors place bytes inside = simp (length-append, length-replicate) (omega arith)
 
@@ -27,14 +28,17 @@ bytes_at-image_with : (sectors place : ℕ) (bytes : List ℕ) → bytes_at plac
 unfolding image_with
 bytes_at-image_with sectors place bytes =
     let rest = replicate (512 * sectors - place - length bytes) 0 in
-    ap (take (length bytes)) (drop_at (replicate place 0) (bytes ++ rest) place (length-replicate place 0)) ∙ take_at bytes rest (length bytes) refl
+    ap (take (length bytes)) (drop_at (replicate place 0) (bytes ++ rest) place (length-replicate place 0))
+    ∙ take_at bytes rest (length bytes) refl
 
 -- what holds of the bytes at a place holds over the image
-pub over_bytes : (sectors place n : ℕ) (told : Option (List ℕ)) (bytes : List ℕ) (P : List ℕ → Type 0) → place + n ≤ 512 * sectors → length bytes ≡ n
+pub over_bytes : (sectors place n : ℕ) (told : Option (List ℕ)) (bytes : List ℕ) (P : List ℕ → Type 0)
+    → place + n ≤ 512 * sectors → length bytes ≡ n
     → IfTold told (λ image. bytes ≡ bytes_at place n image) → P bytes → OverImage sectors told (λ image. P (bytes_at place n image))
 over_bytes sectors place n None bytes P inside many read holds =
     let image = image_with sectors place bytes in
     let all : length image ≡ 512 * sectors = length-image_with sectors place bytes (omega arith) in
-    let same : bytes_at place n image ≡ bytes = subst (λ (k : ℕ). bytes_at place k image ≡ bytes) many (bytes_at-image_with sectors place bytes) in
+    let same : bytes_at place n image ≡ bytes = subst (λ (k : ℕ). bytes_at place k image ≡ bytes) many
+    (bytes_at-image_with sectors place bytes) in
     (image, all, subst P (sym same) holds)
 over_bytes sectors place n (Some image) bytes P inside many read holds = subst P read holds

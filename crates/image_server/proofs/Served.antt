@@ -20,7 +20,8 @@ asked_sectors sectors a e = grind (arith, nat_tests)
 
 -- an answer without sectors
 pub answer_plain : (sectors : ℕ) (told : Option (List ℕ)) (a r : AtaPart) (kind : Asked) → asked_in sectors a ≡ kind
-    → ((image : List ℕ) → r ≡ ata_answer kind sectors image a) → OverImage sectors told (λ image. r ≡ ata_answer (asked_in sectors a) sectors image a)
+    → ((image : List ℕ) → r ≡ ata_answer kind sectors image a)
+    → OverImage sectors told (λ image. r ≡ ata_answer (asked_in sectors a) sectors image a)
 answer_plain sectors told a r kind asked is =
     over_any sectors told (λ image. r ≡ ata_answer (asked_in sectors a) sectors image a)
     (λ image. is image ∙ ap (λ k. ata_answer k sectors image a) (sym asked))
@@ -36,25 +37,30 @@ answer_sectors sectors told a r body asked is many read =
     (over_bytes sectors (512 * a.lba) (512 * a.count) told body (λ bytes. r ≡ answered a 0 80 bytes) (omega arith) many read is)
 
 -- what is answered to the one reading of a frame is answered to the frame
-pub answer_read : (sectors : ℕ) (told : Option (List ℕ)) (frame : List ℕ) (read : Result Aoe FrameFault) (answer : Option (List ℕ)) → IsReading frame read
+pub answer_read : (sectors : ℕ) (told : Option (List ℕ)) (frame : List ℕ) (read : Result Aoe FrameFault) (answer : Option (List ℕ))
+    → IsReading frame read
     → OverImage sectors told (λ image. answer ≡ option_map frame_of (reply sectors image read))
     → OverImage sectors told (λ image. IsAnswer sectors image frame answer)
 answer_read sectors told frame read answer is over =
     over_map sectors told (λ image. answer ≡ option_map frame_of (reply sectors image read)) (λ image. IsAnswer sectors image frame answer)
     (λ image e r other. e ∙ ap (λ x. option_map frame_of (reply sectors image x)) (one_reading frame read r is other)) over
 
-pub answer_result : {E : Type 0} (sectors : ℕ) (told : Option (List ℕ)) (frame : List ℕ) (read : Result Aoe FrameFault) (result : Result (Option (List ℕ)) E)
-    → IsReading frame read → IfOk result (λ answer. OverImage sectors told (λ image. answer ≡ option_map frame_of (reply sectors image read)))
+pub answer_result : {E : Type 0} (sectors : ℕ) (told : Option (List ℕ)) (frame : List ℕ) (read : Result Aoe FrameFault)
+    (result : Result (Option (List ℕ)) E)
+    → IsReading frame read
+    → IfOk result (λ answer. OverImage sectors told (λ image. answer ≡ option_map frame_of (reply sectors image read)))
     → IfOk result (λ answer. OverImage sectors told (λ image. IsAnswer sectors image frame answer))
 answer_result sectors told frame read (Ok answer) is over = answer_read sectors told frame read answer is over
 answer_result sectors told frame read (Err e) is over = tt
 
 -- what holds of the sectors sent to the one reading of a frame
-pub sent_read : (sectors : ℕ) (frame : List ℕ) (read : Result Aoe FrameFault) (P : ℕ → Type 0) → IsReading frame read → P (sectors_sent sectors read)
+pub sent_read : (sectors : ℕ) (frame : List ℕ) (read : Result Aoe FrameFault) (P : ℕ → Type 0) → IsReading frame read
+    → P (sectors_sent sectors read)
     → (r : Result Aoe FrameFault) → IsReading frame r → P (sectors_sent sectors r)
 sent_read sectors frame read P is holds r other = subst (λ x. P (sectors_sent sectors x)) (one_reading frame read r is other) holds
 
-pub needed_result : {T E : Type 0} (sectors : ℕ) (frame : List ℕ) (read : Result Aoe FrameFault) (result : Result T E) → IsReading frame read
+pub needed_result : {T E : Type 0} (sectors : ℕ) (frame : List ℕ) (read : Result Aoe FrameFault) (result : Result T E)
+    → IsReading frame read
     → OnErr result (0 < sectors_sent sectors read) → OnErr result (HasSectors sectors frame)
 needed_result sectors frame read (Ok answer) is needed = tt
 needed_result sectors frame read (Err e) is needed = sent_read sectors frame read (λ n. 0 < n) is needed

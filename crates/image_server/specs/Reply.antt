@@ -1,6 +1,7 @@
 -- The server's reply to a frame, over the bytes of an image.
 use Rattle.std.specs.Prelude.{ℕ, ◌*◌, ◌==◌, if◌then◌else◌, bit_or, List, [], Option, Some, None, Result, Ok, Err}
 use Rattle.bm_host.specs.Outside.{bytes_at}
+use Rattle.ata_taskfile.specs.declared.registers.TheConstants.{ABRT, IDNF}
 use Rattle.aoe_frame.specs.declared.addresses.TheConstants.{SERVER, SHELF, SLOT}
 use Rattle.aoe_frame.specs.declared.message.TheConstants.{VERSION, REPLY, FAILED}
 use Rattle.aoe_frame.specs.declared.message.Header.{Header}
@@ -13,7 +14,7 @@ use Rattle.aoe_frame.specs.declared.message.FrameFault.{FrameFault}
 use Rattle.aoe_frame.specs.declared.message.FrameFault.TheVariants.{Short, NotAoe, Version}
 use Rattle.image_server.specs.declared.request.Asked.{Asked}
 use Rattle.image_server.specs.declared.request.Asked.TheVariants.{Sectors, PastTheEnd, Identity, Refused}
-use Rattle.image_server.specs.declared.reply.TheConstants.{UNKNOWN_COMMAND, BAD_ARGUMENT, OTHER_VERSION, GOOD_STATUS, FAILED_STATUS, NO_ERROR, ADDRESS_ERROR, COMMAND_ERROR}
+use Rattle.image_server.specs.declared.reply.TheConstants.{UNKNOWN_COMMAND, BAD_ARGUMENT, OTHER_VERSION, GOOD_STATUS, FAILED_STATUS, NO_ERROR}
 use Rattle.image_server.specs.Request.{is_heard, asked_in}
 use Rattle.image_server.specs.Identity.{identity}
 
@@ -48,17 +49,19 @@ answered a error status body = record a { feature = error; command = status; bod
 abbrev pub ata_answer : Asked → ℕ → List ℕ → AtaPart → AtaPart
 ata_answer Sectors sectors image a =
     answered a NO_ERROR GOOD_STATUS (bytes_at (512 * a.lba) (512 * a.count) image)
-ata_answer PastTheEnd sectors image a = answered a ADDRESS_ERROR FAILED_STATUS []
+ata_answer PastTheEnd sectors image a = answered a IDNF FAILED_STATUS []
 ata_answer Identity sectors image a = answered a NO_ERROR GOOD_STATUS (identity sectors)
-ata_answer Refused sectors image a = answered a COMMAND_ERROR FAILED_STATUS []
+ata_answer Refused sectors image a = answered a ABRT FAILED_STATUS []
 
 -- room for 64 requests, firmware 1, two sectors a request, and no string (own)
 abbrev pub configuration : ConfigPart
-configuration = record { buffers = 64; firmware = 1; count = 2; version = VERSION; code = 0; length = 0 }
+configuration =
+    record { buffers = 64; firmware = 1; count = 2; version = VERSION; code = 0; length = 0 }
 
 -- the reply to a header with an argument: only reading the configuration is served of what is done with it (own)
 abbrev pub reply_to : ℕ → List ℕ → Header → Argument → Aoe
-reply_to sectors image h (Ata a) = accepted h (Ata (ata_answer (asked_in sectors a) sectors image a))
+reply_to sectors image h (Ata a) =
+    accepted h (Ata (ata_answer (asked_in sectors a) sectors image a))
 reply_to sectors image h (Config c) =
     if c.code == 0 then accepted h (Config configuration) else refusal h BAD_ARGUMENT
 reply_to sectors image h Other = refusal h UNKNOWN_COMMAND

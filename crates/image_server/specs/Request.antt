@@ -13,13 +13,15 @@ use Rattle.image_server.specs.declared.request.Asked.TheVariants.{Sectors, PastT
 abbrev pub is_heard : Header → Bool
 is_heard h =
     (bit_and h.flags REPLY == 0)
-    && (((h.major == SHELF) || (h.major == ALL_SHELVES)) && ((h.minor == SLOT) || (h.minor == ALL_SLOTS)))
+    && (((h.major == SHELF) || (h.major == ALL_SHELVES))
+    && ((h.minor == SLOT) || (h.minor == ALL_SLOTS)))
 
 -- READ SECTOR(S) EXT of one sector or two (own: no more)
 abbrev pub is_read : AtaPart → Bool
 is_read a =
     (a.command == READ_EXTENDED)
-    && (not (bit_and a.flags EXTENDED == 0) && ((bit_and a.flags WRITE == 0) && ((a.count == 1) || (a.count == 2))))
+    && (not (bit_and a.flags EXTENDED == 0)
+    && ((bit_and a.flags WRITE == 0) && ((a.count == 1) || (a.count == 2))))
 
 -- IDENTIFY DEVICE, which has no 48-bit address (ATA/ATAPI-6)
 abbrev pub is_identify : AtaPart → Bool

@@ -20,7 +20,8 @@ OverImage sectors (Some image) P = P image
 -- the answer to a frame over an image: its reply as it is written, or none
 abbrev pub IsAnswer : ℕ → List ℕ → List ℕ → Option (List ℕ) → Type 0
 IsAnswer sectors image frame answer =
-    (r : Result Aoe FrameFault) → IsReading frame r → answer ≡ option_map frame_of (reply sectors image r)
+    (r : Result Aoe FrameFault) → IsReading frame r
+    → answer ≡ option_map frame_of (reply sectors image r)
 
 -- no more of the image is looked at than this many sectors
 abbrev pub LooksAtMost : ℕ → Outside → Outside → Type 0
@@ -33,4 +34,5 @@ LooksAtSent sectors frame old new =
 
 -- sectors go into the reply to a frame
 abbrev pub HasSectors : ℕ → List ℕ → Type 0
-HasSectors sectors frame = (r : Result Aoe FrameFault) → IsReading frame r → 0 < sectors_sent sectors r
+HasSectors sectors frame =
+    (r : Result Aoe FrameFault) → IsReading frame r → 0 < sectors_sent sectors r

@@ -1,8 +1,7 @@
 //! The answer to IDENTIFY DEVICE.
 
-ghost use Rattle.std.specs.Prelude.{◌≡◌, ◌≤◌, ◌+◌, ◌++◌, [], length, replicate, codes};
-ghost use Rattle.std.specs.Int.{bytes_low_first};
-ghost use Rattle.image_server.specs.Identity.{identity, in_words};
+ghost use Rattle.std.specs.Prelude.{◌≡◌};
+ghost use Rattle.image_server.specs.Identity.{identity};
 
 use crate::body::{Body, put_text};
 

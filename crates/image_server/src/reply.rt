@@ -1,12 +1,13 @@
 //! The parts of a reply that need no sector.
 
-ghost use Rattle.std.specs.Prelude.{◌≡◌, ◌<◌};
-ghost use Rattle.image_server.specs.Reply.{accepted, answered, configuration, refusal, reply_header};
+ghost use Rattle.std.specs.Prelude.{◌≡◌};
+ghost use Rattle.image_server.specs.Reply.{accepted, answered, refusal, reply_header};
 
 use crate::body::Body;
 use aoe_frame::{
     Aoe, Argument, AtaPart, ConfigPart, FAILED, Header, REPLY, SERVER, SHELF, SLOT, VERSION,
 };
+use ata_taskfile::registers::{DRDY, DSC, ERR};
 
 /// Why a command isn't done: there is none of this byte (AoE r11, error codes).
 pub(crate) const UNKNOWN_COMMAND: u8 = 1;
@@ -17,20 +18,14 @@ pub(crate) const BAD_ARGUMENT: u8 = 2;
 /// It has another version (AoE r11, error codes).
 pub(crate) const OTHER_VERSION: u8 = 5;
 
-/// Status after an ATA command that was done (ATA/ATAPI-6, Status register: DRDY; own: 10h beside it).
-pub const GOOD_STATUS: u8 = 0x50;
+/// Status after an ATA command that was done (ATA/ATAPI-6, Status register; own: DSC is always set).
+pub const GOOD_STATUS: u8 = DRDY | DSC;
 
-/// Status after one that failed: ERR too (ATA/ATAPI-6, Status register).
-pub(crate) const FAILED_STATUS: u8 = 0x51;
+/// Status after one that failed (ATA/ATAPI-6, Status register).
+pub(crate) const FAILED_STATUS: u8 = DRDY | DSC | ERR;
 
 /// Error where none is told.
 pub(crate) const NO_ERROR: u8 = 0;
-
-/// Error: the sectors aren't all there (ATA/ATAPI-6, Error register: IDNF).
-pub(crate) const ADDRESS_ERROR: u8 = 0x10;
-
-/// Error: the command isn't served (ATA/ATAPI-6, Error register: ABRT).
-pub(crate) const COMMAND_ERROR: u8 = 0x04;
 
 /// What the server has room for: 64 requests of two sectors each, and no string (own).
 pub(crate) const CONFIGURATION: ConfigPart = ConfigPart {

@@ -1,6 +1,6 @@
 //! What a request asks of the server.
 
-ghost use Rattle.std.specs.Prelude.{◌≡◌, ◌<◌, ◌≤◌, ◌+◌, ◌^◌};
+ghost use Rattle.std.specs.Prelude.{◌≡◌, ◌<◌, ◌+◌, ◌^◌};
 ghost use Rattle.image_server.specs.Request.{asked_in, is_heard, is_identify, is_read};
 
 use aoe_frame::{ALL_SHELVES, ALL_SLOTS, AtaPart, EXTENDED, Header, REPLY, SHELF, SLOT, WRITE};

@@ -1,9 +1,9 @@
 //! A frame served.
 
-ghost use Rattle.std.specs.Prelude.{if◌then◌else◌, ◌==◌, ℕ, List, Ok, Err, ◌^◌, ◌≡◌, ◌≤◌, ◌<◌, ◌+◌, ◌*◌, length, option_map, IfOk, IfErr, OnErr, IfSome};
-ghost use Rattle.bm_host.specs.Outside.{Counted, IfTold, Reads, SameBytes, bytes_at, looked_at};
+ghost use Rattle.std.specs.Prelude.{if◌then◌else◌, ◌==◌, ℕ, List, Ok, Err, ◌^◌, ◌≡◌, ◌≤◌, ◌<◌, ◌+◌, ◌*◌, length, option_map, IfOk, OnErr};
+ghost use Rattle.bm_host.specs.Outside.{Counted, IfTold, Reads, SameBytes, bytes_at};
 ghost use Rattle.aoe_frame.specs.declared.message.Header.{Header as HeaderOf};
-ghost use Rattle.aoe_frame.specs.Layout.{ArgumentFits, AtaFits, Fits, HeaderFits, IsOf, IsWritable, frame_of};
+ghost use Rattle.aoe_frame.specs.Layout.{AtaFits, Fits, HeaderFits, IsOf, IsWritable, frame_of};
 ghost use Rattle.image_server.specs.Request.{asked_in};
 ghost use Rattle.image_server.specs.Reply.{ata_answer, accepted, configuration, if_heard, refusal, reply, reply_to, sectors_in, sectors_sent};
 ghost use Rattle.image_server.specs.Serving.{HasImage, HasSectors, IsAnswer, LooksAtMost, LooksAtSent, OverImage};
@@ -11,11 +11,14 @@ ghost use Rattle.image_server.specs.Serving.{HasImage, HasSectors, IsAnswer, Loo
 use crate::body::Body;
 use crate::identity::identity;
 use crate::reply::{
-    ADDRESS_ERROR, BAD_ARGUMENT, COMMAND_ERROR, CONFIGURATION, FAILED_STATUS, GOOD_STATUS,
-    NO_ERROR, OTHER_VERSION, UNKNOWN_COMMAND, accepted, answered, refusal,
+    BAD_ARGUMENT, CONFIGURATION, FAILED_STATUS, GOOD_STATUS, NO_ERROR, OTHER_VERSION,
+    UNKNOWN_COMMAND, accepted, answered, refusal,
 };
 use crate::request::{Asked, asked_in, is_heard};
-use aoe_frame::{Aoe, Argument, AtaPart, ConfigPart, Frame, FrameFault, Header, parse, write};
+use aoe_frame::{
+    Aoe, Argument, AtaPart, ConfigPart, Frame, FrameFault, Header, MOST_BODY, parse, write,
+};
+use ata_taskfile::registers::{ABRT, IDNF};
 use bm_host::{Failed, Host, Role};
 
 /// The server's reply to a frame, over the first so many sectors of Image; None is silence (docs/network.md).
@@ -137,9 +140,9 @@ fn ata_answer<H: Host>(host: &mut H, sectors: u64, part: &AtaPart) -> Result<Ata
             let body = read_sectors(host, part.lba, part.count)?;
             Ok(answered(part, NO_ERROR, GOOD_STATUS, body))
         }
-        Asked::PastTheEnd => Ok(answered(part, ADDRESS_ERROR, FAILED_STATUS, Body::new())),
+        Asked::PastTheEnd => Ok(answered(part, IDNF, FAILED_STATUS, Body::new())),
         Asked::Identity => Ok(answered(part, NO_ERROR, GOOD_STATUS, identity(sectors))),
-        Asked::Refused => Ok(answered(part, COMMAND_ERROR, FAILED_STATUS, Body::new())),
+        Asked::Refused => Ok(answered(part, ABRT, FAILED_STATUS, Body::new())),
     }
 }
 
@@ -155,7 +158,7 @@ fn read_sectors<H: Host>(host: &mut H, first: u64, count: u8) -> Result<Body, Fa
     ensures bytes { SameBytes (H.outside host.old) (H.outside host.new) }
     ensures looked { LooksAtMost count (H.outside host.old) (H.outside host.new) }
 {
-    let mut room = [0; 1024];
+    let mut room = [0; MOST_BODY];
     let sectors = &mut room[..512 * count as usize];
     host.read_at(Role::Image, 512 * first, sectors)?;
     let mut body = Body::new();

@@ -8,9 +8,10 @@ use Rattle.std.proofs.lemmas.List.Elements.{All-from_get_or}
 use Rattle.std.proofs.lemmas.List.Folds.{list_any_none, list_any_at}
 use Rattle.std.proofs.lemmas.List.FromFn.{length-range_with_len, get_or-range_with_len}
 use Rattle.fill_bitmap.specs.declared.area.Area.{Area}
-use Rattle.fill_bitmap.specs.Area.{IsBlock}
+use Rattle.fill_bitmap.specs.Area.{IsBlock, block_at}
 use Rattle.fill_bitmap.specs.BlockSet.{has}
-use Rattle.io_interpret.specs.Blocks.{block_at, is_empty_at, touches_empty}
+use Rattle.fill_bitmap.specs.Disk.{is_empty_at}
+use Rattle.io_interpret.specs.Blocks.{touches_empty}
 
 -- a range none of whose sectors lies in an empty block touches none
 pub none_touched : (area : Area) (filled : List Bool) (first count : ℕ)
@@ -50,7 +51,8 @@ filled_at : (area : Area) (filled : List Bool) (s : ℕ) → has filled (block_a
 filled_at area filled s held = grind (arith, nat_tests)
 
 -- a sector of the image in a block that isn't filled lies in an empty one
-empty_at : (area : Area) (filled : List Bool) (s : ℕ) → s < area.image → has filled (block_at area s) ≡ false → is_empty_at area filled s ≡ true
+empty_at : (area : Area) (filled : List Bool) (s : ℕ) → s < area.image → has filled (block_at area s) ≡ false
+    → is_empty_at area filled s ≡ true
 empty_at area filled s inside lacks = grind (arith, nat_tests)
 
 -- a range without a sector of the image touches no empty block
@@ -79,7 +81,8 @@ all_filled area filled first count end some ends held =
     ])
 
 -- a range touches an empty block where one of those of its sectors of the image isn't filled
-pub one_empty : (area : Area) (filled : List Bool) (first count end b : ℕ) → 0 < area.block → end ≡ min area.image (first + count) → first < end
+pub one_empty : (area : Area) (filled : List Bool) (first count end b : ℕ) → 0 < area.block → end ≡ min area.image (first + count)
+    → first < end
     → first / area.block ≤ b → b ≤ (end - 1) / area.block → has filled b ≡ false
     → touches_empty area filled first count ≡ true
 one_empty area filled first count end b some ends any low high lacks =

@@ -16,7 +16,7 @@ pub(crate) fn empty_block(sector: u64, area: &Area, bitmap: &Bitmap) -> Option<u
     if sector >= area.image {
         return None;
     }
-    let b = (sector / u64::from(area.block)) as u32;
+    let b = area.block_at(sector);
     if bitmap.is_filled(b) { None } else { Some(b) }
 }
 
@@ -32,10 +32,7 @@ pub(crate) fn touches_empty(first: u64, count: u32, area: &Area, bitmap: &Bitmap
     if first >= end {
         return false;
     }
-    let block = u64::from(area.block);
-    let lowest = (first / block) as u32;
-    let highest = ((end - 1) / block) as u32;
-    for b in lowest..=highest {
+    for b in area.block_at(first)..=area.block_at(end - 1) {
         if !bitmap.is_filled(b) {
             return true;
         }

@@ -1,7 +1,7 @@
 //! The class of a guest's command: what the monitor has to do before the drive may have it.
 
-ghost use Rattle.std.specs.Prelude.{◌≡◌, ◌<◌, nat_lt, ◌+◌};
-ghost use Rattle.fill_bitmap.specs.Area.{IsSuitable, blocks_of, reserved_of};
+ghost use Rattle.std.specs.Prelude.{◌≡◌, ◌<◌};
+ghost use Rattle.fill_bitmap.specs.Area.{IsSuitable, blocks_of};
 ghost use Rattle.fill_bitmap.specs.Bitmap.{blocks_in};
 ghost use Rattle.io_interpret.specs.Class.{class_of, class_of_request, is_settled, reaches_reserved};
 

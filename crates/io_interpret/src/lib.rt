@@ -1,7 +1,7 @@
 //! What the monitor makes of a guest's command: its class, by the sectors that it names, and the first piece of its
 //! range, by the blocks of the image.
 //!
-//! Start with `classify`, then `first_piece`. `specs/Blocks.antt` says when a sector lies in an empty block and when a
+//! Start with `classify`, then `first_piece`. `specs/Blocks.antt` says which empty block a sector lies in and when a
 //! range touches one, `specs/Class.antt` which class a request has, and `specs/Piece.antt` how far a piece goes.
 //! `docs/monitor.md` has the same as tables. No call here reaches a device.
 

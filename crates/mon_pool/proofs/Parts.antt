@@ -88,7 +88,8 @@ module _ (n k : ℕ) (bytes block : List ℕ) (long : length bytes ≡ n) (fits 
         ap (take n) (written_above (k * n) bytes block (omega (arith, long, fits)) (i * n) (omega (arith, long, mul-le-mul_right n next)))
   ]
 
-module _ (pool : Region) (lease : Held) (bytes : List ℕ) (whole : IsWhole pool) (of : IsOf lease pool) (long : length bytes ≡ pool.room) where
+module _ (pool : Region) (lease : Held) (bytes : List ℕ) (whole : IsWhole pool) (of : IsOf lease pool)
+    (long : length bytes ≡ pool.room) where
   fits : lease.slot * pool.room + pool.room ≤ length pool.block
   fits = slot_within lease.slot pool.room pool.free pool.block of.out whole
 

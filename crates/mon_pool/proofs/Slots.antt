@@ -79,7 +79,8 @@ of_before pool lease other of =
     (record { block = of.block; out = before.0 }, before.1)
 
 -- what is written through a lease leaves every lease of the pool
-pub are_of_written : (leases : List Held) (pool : Region) (lease : Held) (bytes : List ℕ) → AreOf leases pool → AreOf leases (with_bytes lease pool bytes)
+pub are_of_written : (leases : List Held) (pool : Region) (lease : Held) (bytes : List ℕ) → AreOf leases pool
+    → AreOf leases (with_bytes lease pool bytes)
 are_of_written [] pool lease bytes are = tt
 are_of_written (one ∷ leases) pool lease bytes are =
     (record { block = are.0.block; out = are.0.out }, are_of_written leases (given one pool) lease bytes are.1)

@@ -86,4 +86,5 @@ written_at place bytes block =
 
 -- a pool once these bytes, as many as a slot has, are written through a lease
 abbrev pub with_bytes : Held → Region → List ℕ → Region
-with_bytes lease pool bytes = record pool { block = written_at (lease.slot * pool.room) bytes pool.block }
+with_bytes lease pool bytes =
+    record pool { block = written_at (lease.slot * pool.room) bytes pool.block }

@@ -1,7 +1,8 @@
 -- What a command line of `run` says.
-use Rattle.std.specs.Prelude.{ℕ, ◌≡◌, ◌≤◌, ◌<◌, ◌%◌, ◌^◌, ◌⊎◌, ◌&&◌, not, Bool, true, List, [], ◌∷◌, codes, decimal, take, drop, Option, Some, None}
+use Rattle.std.specs.Prelude.{ℕ, ◌≡◌, ◌≤◌, ◌<◌, ◌%◌, ◌^◌, ◌&&◌, not, Bool, true, List, [], ◌∷◌, codes, decimal, take, drop, Option, Some, None}
 use Rattle.std.specs.List.{list_any}
 use Rattle.std.specs.Str.{bytes_eq}
+use Rattle.fill_bitmap.specs.Area.{IsBlock}
 use Rattle.run_words.specs.declared.Mode.{Mode}
 use Rattle.run_words.specs.declared.Mode.TheVariants as mode
 use Rattle.run_words.specs.declared.Options.{Options}
@@ -21,10 +22,6 @@ IsNumber default (Some text) number = text ≡ decimal number
 -- the same between two bounds
 abbrev pub IsNumberIn : ℕ → ℕ → ℕ → Option (List ℕ) → ℕ → Type 0
 IsNumberIn least most default value number = IsNumber default value number × (least ≤ number) × (number ≤ most)
-
--- a block has 8, 16, 32 or 64 sectors
-abbrev pub IsBlock : ℕ → Type 0
-IsBlock block = (block ≡ 8) ⊎ (block ≡ 16) ⊎ (block ≡ 32) ⊎ (block ≡ 64)
 
 -- the block's number
 abbrev pub SaysBlock : Option (List ℕ) → ℕ → Type 0

@@ -5,5 +5,6 @@ pub returns : goal.returns
 returns c = record {
   header = λ id durable s sets cells outcome settles left. cut_header s.area id sets.stored durable cells outcome settles.kept left;
   stored = λ id durable s sets cells outcome settles left. cut_stores s.area id sets.stored durable cells outcome settles.kept left;
-  durable = λ id durable s sets cells outcome settles left. cut_stores_no_other s.area id sets.stored durable cells outcome settles.kept left;
+  durable = λ id durable s sets cells outcome settles left. cut_stores_no_other s.area id sets.stored
+      durable cells outcome settles.kept left;
 }

@@ -7,8 +7,10 @@ use Rattle.image_server.proofs.serving.ata_answer.Goals as goal
 
 pub returns-in_ok-body-in-Sectors-clause-answer : goal.returns-in_ok-body-in-Sectors-clause-answer
 returns-in_ok-body-in-Sectors-clause-answer g c =
-    answer_sectors c.args.sectors ((g.H.Host.outside c.args.host.now).told Image) c.args.part.now c.answered.result c.in_ok-body-in-Sectors.body
-    (sym c.asked_in.ensures.asked ∙ c.in-Sectors.is) c.answered.ensures.part c.in_ok-body-in-Sectors.ensures.count c.in_ok-body-in-Sectors.ensures.body
+    answer_sectors c.args.sectors ((g.H.Host.outside c.args.host.now).told Image) c.args.part.now
+    c.answered.result c.in_ok-body-in-Sectors.body
+    (sym c.asked_in.ensures.asked ∙ c.in-Sectors.is) c.answered.ensures.part c.in_ok-body-in-Sectors.ensures.count
+    c.in_ok-body-in-Sectors.ensures.body
 
 pub returns-in-Identity-clause-answer : goal.returns-in-Identity-clause-answer
 returns-in-Identity-clause-answer g c =

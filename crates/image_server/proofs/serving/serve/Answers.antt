@@ -9,17 +9,20 @@ use Rattle.image_server.proofs.serving.serve.Goals as goal
 
 pub returns-in-Ok-clause-answer : goal.returns-in-Ok-clause-answer
 returns-in-Ok-clause-answer g c =
-    answer_result c.args.sectors ((g.H.Host.outside c.args.host.now).told Image) c.args.frame.now (Ok c.in-Ok.message) c.serve_message.result
+    answer_result c.args.sectors ((g.H.Host.outside c.args.host.now).told Image) c.args.frame.now
+    (Ok c.in-Ok.message) c.serve_message.result
     c.in-Ok.ensures.reads c.serve_message.ensures.answer
 
 pub returns-in-Ok-clause-needed : goal.returns-in-Ok-clause-needed
 returns-in-Ok-clause-needed g c =
-    needed_result c.args.sectors c.args.frame.now (Ok c.in-Ok.message) c.serve_message.result c.in-Ok.ensures.reads c.serve_message.ensures.needed
+    needed_result c.args.sectors c.args.frame.now (Ok c.in-Ok.message) c.serve_message.result c.in-Ok.ensures.reads
+    c.serve_message.ensures.needed
 
 pub returns-in-Ok-clause-looked : goal.returns-in-Ok-clause-looked
 returns-in-Ok-clause-looked g c =
     sent_read c.args.sectors c.args.frame.now (Ok c.in-Ok.message)
-    (λ n. LooksAtMost n (g.H.Host.outside c.args.host.now) (g.H.Host.outside c.serve_message.new.host)) c.in-Ok.ensures.reads c.serve_message.ensures.looked
+    (λ n. LooksAtMost n (g.H.Host.outside c.args.host.now) (g.H.Host.outside c.serve_message.new.host))
+    c.in-Ok.ensures.reads c.serve_message.ensures.looked
 
 pub returns-in-Err-clause-answer : goal.returns-in-Err-clause-answer
 returns-in-Err-clause-answer g c =

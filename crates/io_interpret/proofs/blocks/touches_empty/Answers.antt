@@ -13,8 +13,8 @@ pub returns-then-not-is_filled : goal.returns-then-not-is_filled
 returns-then-not-is_filled c =
     let end : c.min-end.result ≡ min c.args.area.now.image (c.args.first + c.args.count) = omega arith in
     let any : c.args.first < c.min-end.result = omega arith in
-    let low : c.args.first / c.args.area.now.block ≤ c.loop-b.b = rw (← c.from-block.ensures) (omega arith) in
-    let high : c.loop-b.b ≤ (c.min-end.result - 1) / c.args.area.now.block = rw (← c.from-block.ensures) (omega arith) in
+    let low : c.args.first / c.args.area.now.block ≤ c.loop-b.b = omega arith in
+    let high : c.loop-b.b ≤ (c.min-end.result - 1) / c.args.area.now.block = omega arith in
     let lacks : has c.args.bitmap.now.filled c.loop-b.b ≡ false = sym c.is_filled.ensures.answer ∙ c.if-not-is_filled.true in
     record {
       touched = sym (one_empty c.args.area.now c.args.bitmap.now.filled c.args.first c.args.count c.min-end.result c.loop-b.b
@@ -24,7 +24,7 @@ returns-then-not-is_filled c =
 pub returns-else-not-is_filled : goal.returns-else-not-is_filled
 returns-else-not-is_filled c =
     let end : c.min-end.result ≡ min c.args.area.now.image (c.args.first + c.args.count) = omega arith in
-    let last : (c.min-end.result - 1) / c.args.area.now.block ≤ c.loop-b.b = rw (← c.from-block.ensures) (omega arith) in
+    let last : (c.min-end.result - 1) / c.args.area.now.block ≤ c.loop-b.b = omega arith in
     let held : has c.args.bitmap.now.filled c.loop-b.b ≡ true = sym c.is_filled.ensures.answer ∙ c.if-not-is_filled.false in
     record {
       touched = sym (all_filled c.args.area.now c.args.bitmap.now.filled c.args.first c.args.count c.min-end.result

@@ -6,5 +6,6 @@ use Rattle.aoe_client.proofs.fetch.Fetch.new.Goals as goal
 
 pub returns : goal.returns
 returns c =
-    let tags = c.truncate.ensures.items ∙ ap (take c.args.count) c.from-tags.ensures.0 ∙ take-replicate c.args.count MOST_TAGS Due c.requires.count in
+    let tags = c.truncate.ensures.items ∙ ap (take c.args.count) c.from-tags.ensures.0
+    ∙ take-replicate c.args.count MOST_TAGS Due c.requires.count in
     λ i. record { lease = c.args.lease; block = c.args.block; age = 0; tags = tags i }
