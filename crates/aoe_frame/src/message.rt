@@ -69,7 +69,7 @@ pub enum Argument {
 /// The registers of an ATA command, or of its answer, and the bytes that go with it (AoE r11, Issue ATA Command).
 #[derive(Clone, Debug, Drop, PartialEq, Eq)]
 pub struct AtaPart {
-    /// `EXTENDED` and `WRITE`, and the bits 10h and 02h, which aren't looked at.
+    /// `EXTENDED` and `WRITE`, and the bits 10h and 02h, which the image server doesn't look at.
     pub flags: u8,
     /// Features in a request, Error in a reply.
     pub feature: u8,

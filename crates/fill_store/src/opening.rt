@@ -23,7 +23,7 @@ pub(crate) enum OpeningStep {
     // It isn't, and this sector of the bitmap is written.
     WriteZeros(u32),
     FlushZeros,
-    // The empty bitmap is durable by now: behind a header that a cut left, what the disk had there before would count.
+    // The empty bitmap is durable by now. Else a cut could leave a header before whatever the disk had there.
     WriteHeader,
     FlushHeader,
     Ended,
