@@ -16,7 +16,8 @@ use Rattle.aoe_client.specs.Asking.{Asking, HasRoom, HasTags, heard, buffers_hea
 use Rattle.aoe_client.specs.declared.client.Heard.TheVariants.{Took}
 use Rattle.aoe_client.specs.Buffers.{BothHold, Holds}
 
-get_other : (tags : List TagState) (k i : ℕ) (x : TagState) → i ≢ k → slice_get (slice_set tags k x) i ≡ slice_get tags i
+get_other : (tags : List TagState) (k i : ℕ) (x : TagState) → i ≢ k
+    → slice_get (slice_set tags k x) i ≡ slice_get tags i
 get_other [] k i x apart = refl
 get_other (y ∷ tags) zero zero x apart = absurd (apart refl)
 get_other (y ∷ tags) zero (suc i) x apart = refl
@@ -29,7 +30,8 @@ there tags k (Some x) is yet = slice_get_within tags k x is
 
 -- an open tag is one of the block's
 open_within : (tag first : ℕ) (tags : List TagState)
-    → is_open (cond (nat_lt tag first) None (slice_get tags (tag - first))) ≡ true → (first ≤ tag) × (tag - first < length tags)
+    → is_open (cond (nat_lt tag first) None (slice_get tags (tag - first))) ≡ true
+    → (first ≤ tag) × (tag - first < length tags)
 open_within tag first tags yet = elim (cases_lt tag first) [
   | inl below ↦
       absurd (true≢false (sym yet ∙ ap is_open (sym (cond_below tag first None (slice_get tags (tag - first)) below))))
@@ -39,8 +41,10 @@ open_within tag first tags yet = elim (cases_lt tag first) [
 ]
 
 -- the two sectors of a tag that is open go into a slot's buffer
-module _ (source : ℕ → List ℕ) (tag : ℕ) (sectors : List ℕ) (long : length sectors ≡ PART_BYTES) (gives : source tag ≡ sectors)
-    (f : Fetching) (pool : Region) (whole : IsWhole pool) (of : IsOf f.lease pool) (room : length f.tags * PART_BYTES ≤ pool.room)
+module _ (source : ℕ → List ℕ) (tag : ℕ) (sectors : List ℕ) (long : length sectors ≡ PART_BYTES)
+    (gives : source tag ≡ sectors)
+    (f : Fetching) (pool : Region) (whole : IsWhole pool) (of : IsOf f.lease pool)
+    (room : length f.tags * PART_BYTES ≤ pool.room)
     (yet : is_open (state_of tag f) ≡ true) where
   within : (first_tag f ≤ tag) × (tag - first_tag f < length f.tags)
   within = open_within tag (first_tag f) f.tags yet
@@ -50,21 +54,25 @@ module _ (source : ℕ → List ℕ) (tag : ℕ) (sectors : List ℕ) (long : le
 
   full : length (with_part (tag - first_tag f) sectors (bytes_of f.lease pool)) ≡ pool.room
   full =
-      length_written PART_BYTES (tag - first_tag f) sectors (bytes_of f.lease pool) long (fits (tag - first_tag f) within.1)
+      length_written PART_BYTES (tag - first_tag f) sectors (bytes_of f.lease pool) long
+      (fits (tag - first_tag f) within.1)
       ∙ length_bytes pool f.lease whole of
 
-  shown : bytes_of f.lease (with_sectors tag sectors f pool) ≡ with_part (tag - first_tag f) sectors (bytes_of f.lease pool)
+  shown : bytes_of f.lease (with_sectors tag sectors f pool) ≡ with_part (tag - first_tag f) sectors
+      (bytes_of f.lease pool)
   shown = own_bytes pool f.lease (with_part (tag - first_tag f) sectors (bytes_of f.lease pool)) whole of full
 
   pub whole_after : IsWhole (with_sectors tag sectors f pool)
   whole_after = whole_written pool f.lease (with_part (tag - first_tag f) sectors (bytes_of f.lease pool)) whole of full
 
   -- the buffer holds them, and what it held
-  pub own_holds : Holds source (Some f) pool → Holds source (Some (with_tag Answered tag f)) (with_sectors tag sectors f pool)
+  pub own_holds : Holds source (Some f) pool → Holds source (Some (with_tag Answered tag f))
+      (with_sectors tag sectors f pool)
   own_holds holds i is =
       let k = tag - first_tag f in
       let b = bytes_of f.lease pool in
-      let same : first_tag (with_tag Answered tag f) ≡ first_tag f = ap (λ n. f.block * n) (length-set f.tags k Answered) in
+      let same : first_tag (with_tag Answered tag f) ≡ first_tag f = ap (λ n. f.block * n)
+      (length-set f.tags k Answered) in
       ap (part i) shown ∙ elim (cases_eq i k) [
         | inl at ↦
             let sum : tag ≡ first_tag (with_tag Answered tag f) + i = omega (arith, same, within.0, at) in
@@ -82,7 +90,8 @@ module _ (source : ℕ → List ℕ) (tag : ℕ) (sectors : List ℕ) (long : le
   pub other_holds : (g : Fetching) → g.lease.slot ≢ f.lease.slot → Holds source (Some g) pool
       → Holds source (Some g) (with_sectors tag sectors f pool)
   other_holds g apart holds i is =
-      ap (part i) (others_bytes pool f.lease (with_part (tag - first_tag f) sectors (bytes_of f.lease pool)) whole of full g.lease apart)
+      ap (part i) (others_bytes pool f.lease (with_part (tag - first_tag f) sectors (bytes_of f.lease pool))
+      whole of full g.lease apart)
       ∙ holds i is
 
 -- a slot's lease is of the pool, whose slots have room
@@ -101,7 +110,8 @@ apart_back None (Some g) apart = tt
 apart_back (Some f) None apart = tt
 apart_back (Some f) (Some g) apart = λ same. apart (sym same)
 
-ready_both : (s t : Option Fetching) (pool : Region) → AreOf (lease_in s ++ lease_in t) pool → HasRoom pool.room s → HasRoom pool.room t
+ready_both : (s t : Option Fetching) (pool : Region) → AreOf (lease_in s ++ lease_in t) pool → HasRoom pool.room s
+    → HasRoom pool.room t
     → Ready s pool × Ready t pool × Apart s t
 ready_both None None pool are room_s room_t = (tt, tt, tt)
 ready_both None (Some g) pool are room_s room_t = (tt, (are.0, room_t), tt)
@@ -110,14 +120,17 @@ ready_both (Some f) (Some g) pool are room_s room_t =
     let before = of_before pool f.lease g.lease are.1.0 in
     ((are.0, room_s), (before.0, room_t), before.1)
 
-module _ (source : ℕ → List ℕ) (tag : ℕ) (sectors : List ℕ) (long : length sectors ≡ PART_BYTES) (gives : source tag ≡ sectors) where
+module _ (source : ℕ → List ℕ) (tag : ℕ) (sectors : List ℕ) (long : length sectors ≡ PART_BYTES)
+    (gives : source tag ≡ sectors) where
   filled_holds : (o : Bool) (s : Option Fetching) (pool : Region) → is_open_in tag s ≡ o → IsWhole pool → Ready s pool
       → Holds source s pool → Holds source (slot_answered o tag s) (slot_filled o tag sectors s pool)
   filled_holds false s pool yet whole ready holds = holds
   filled_holds true None pool yet whole ready holds = tt
-  filled_holds true (Some f) pool yet whole ready holds = own_holds source tag sectors long gives f pool whole ready.0 ready.1 yet holds
+  filled_holds true (Some f) pool yet whole ready holds = own_holds source tag sectors long gives
+      f pool whole ready.0 ready.1 yet holds
 
-  filled_other : (o : Bool) (s t : Option Fetching) (pool : Region) → is_open_in tag s ≡ o → IsWhole pool → Ready s pool → Apart s t
+  filled_other : (o : Bool) (s t : Option Fetching) (pool : Region) → is_open_in tag s ≡ o → IsWhole pool
+      → Ready s pool → Apart s t
       → Holds source t pool → Holds source t (slot_filled o tag sectors s pool)
   filled_other false s t pool yet whole ready apart holds = holds
   filled_other true None t pool yet whole ready apart holds = holds
@@ -129,9 +142,11 @@ module _ (source : ℕ → List ℕ) (tag : ℕ) (sectors : List ℕ) (long : le
       → IsWhole (slot_filled o tag sectors s pool)
   filled_whole false s pool yet whole ready = whole
   filled_whole true None pool yet whole ready = whole
-  filled_whole true (Some f) pool yet whole ready = whole_after source tag sectors long gives f pool whole ready.0 ready.1 yet
+  filled_whole true (Some f) pool yet whole ready = whole_after source tag sectors long gives f
+      pool whole ready.0 ready.1 yet
 
-  filled_ready : (o : Bool) (s t : Option Fetching) (pool : Region) → Ready t pool → Ready t (slot_filled o tag sectors s pool)
+  filled_ready : (o : Bool) (s t : Option Fetching) (pool : Region) → Ready t pool
+      → Ready t (slot_filled o tag sectors s pool)
   filled_ready false s t pool ready = ready
   filled_ready true None t pool ready = ready
   filled_ready true (Some f) None pool ready = tt
@@ -157,7 +172,8 @@ module _ (source : ℕ → List ℕ) (tag : ℕ) (sectors : List ℕ) (long : le
         filled_other two b (slot_answered one tag d) first refl whole_first ready_b
             (apart_answered one b d (apart_back d b ready.2))
             (filled_holds one d pool refl whole ready.0 holds.0),
-        filled_holds two b first refl whole_first ready_b (filled_other one d b pool refl whole ready.0 ready.2 holds.1),
+        filled_holds two b first refl whole_first ready_b
+            (filled_other one d b pool refl whole ready.0 ready.2 holds.1),
       )
 
 -- a pool that serves a client has room for what its slots ask for

@@ -8,6 +8,17 @@ use Rattle.aoe_client.specs.Fetching.{due_from, is_due}
 -- the due tags are as many as there are tags that are due
 pub length_due : (tag : ℕ) (tags : List TagState) → length (due_from tag tags) ≡ count_by is_due tags
 length_due tag [] = refl
-length_due tag (Due ∷ tags) = omega (arith, sum_by-cons (λ state. cond (is_due state) 1 0) Due tags, length_due (tag + 1) tags)
-length_due tag (Sent ∷ tags) = omega (arith, sum_by-cons (λ state. cond (is_due state) 1 0) Sent tags, length_due (tag + 1) tags)
-length_due tag (Answered ∷ tags) = omega (arith, sum_by-cons (λ state. cond (is_due state) 1 0) Answered tags, length_due (tag + 1) tags)
+length_due tag (Due ∷ tags) = omega (
+  arith,
+  sum_by-cons (λ state. cond (is_due state) 1 0) Due tags,
+  length_due
+      (tag + 1) tags,
+)
+length_due tag (Sent ∷ tags) = omega (
+  arith,
+  sum_by-cons (λ state. cond (is_due state) 1 0) Sent tags,
+  length_due
+      (tag + 1) tags,
+)
+length_due tag (Answered ∷ tags) =
+    omega (arith, sum_by-cons (λ state. cond (is_due state) 1 0) Answered tags, length_due (tag + 1) tags)

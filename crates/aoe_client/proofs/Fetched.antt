@@ -19,21 +19,24 @@ take_sum m n bytes =
 
 -- what was handed over, from the parts that are held
 module _ (source : ℕ → List ℕ) (bytes : List ℕ) (tag : ℕ) where
-  pub parts_given : (n : ℕ) → ((i : ℕ) → i < n → part i bytes ≡ source (tag + i)) → take (n * PART_BYTES) bytes ≡ given_from source tag n
+  pub parts_given : (n : ℕ) → ((i : ℕ) → i < n → part i bytes ≡ source (tag + i))
+      → take (n * PART_BYTES) bytes ≡ given_from source tag n
   parts_given zero each = refl
   parts_given (suc n) each =
       ap (λ m. take m bytes) (suc-mul n PART_BYTES)
       ∙ take_sum (n * PART_BYTES) PART_BYTES bytes
       ∙ (λ j. parts_given n (λ i below. each i (omega arith)) j ++ each n (omega arith) j)
 
-all_get : (tags : List TagState) (i : ℕ) → list_all is_answered tags ≡ true → i < length tags → slice_get tags i ≡ Some Answered
+all_get : (tags : List TagState) (i : ℕ) → list_all is_answered tags ≡ true → i < length tags
+    → slice_get tags i ≡ Some Answered
 all_get [] i all below = absurd (omega arith)
 all_get (Due ∷ tags) i all below = cc
 all_get (Sent ∷ tags) i all below = cc
 all_get (Answered ∷ tags) zero all below = refl
 all_get (Answered ∷ tags) (suc i) all below = all_get tags i all (omega arith)
 
-fetched_where : (source : ℕ → List ℕ) (block : ℕ) (f : Fetching) (pool : Region) (all : Bool) → list_all is_answered f.tags ≡ all
+fetched_where : (source : ℕ → List ℕ) (block : ℕ) (f : Fetching) (pool : Region) (all : Bool)
+    → list_all is_answered f.tags ≡ all
     → HasTags block (Some f) → Holds source (Some f) pool
     → IfSome (cond all (Some (f.block, f.lease)) None) (IsFetched source (tags_in block) pool)
 fetched_where source block f pool false is count holds = tt
@@ -42,7 +45,9 @@ fetched_where source block f pool true is count holds =
     holds i (all_get f.tags i is (omega (arith, count))) ∙ ap (λ n. source (f.block * n + i)) count)
 
 -- what is handed over holds what the source gives for the block's tags
-pub fetched_given : (source : ℕ → List ℕ) (block : ℕ) (s : Option Fetching) (pool : Region) → HasTags block s → Holds source s pool
+pub fetched_given : (source : ℕ → List ℕ) (block : ℕ) (s : Option Fetching) (pool : Region) → HasTags block s
+    → Holds source s pool
     → IfSome (done_in s) (IsFetched source (tags_in block) pool)
 fetched_given source block None pool count holds = tt
-fetched_given source block (Some f) pool count holds = fetched_where source block f pool (list_all is_answered f.tags) refl count holds
+fetched_given source block (Some f) pool count holds = fetched_where source block f pool
+    (list_all is_answered f.tags) refl count holds

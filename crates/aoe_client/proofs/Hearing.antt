@@ -6,7 +6,8 @@ use Rattle.aoe_client.specs.declared.client.Heard.TheVariants.{Took, Ignored}
 
 -- the frame answers the found tag, where there is one, and no other; it is taken where that one is awaited
 module _ {P : ℕ → Type 0} (awaited : ℕ → Bool) where
-  pub took_none : ((tag : ℕ) → (None ≡ Some tag) ↔ P tag) → (tag : ℕ) → (Ignored ≡ Took tag) ↔ (P tag × (awaited tag ≡ true))
+  pub took_none : ((tag : ℕ) → (None ≡ Some tag) ↔ P tag) → (tag : ℕ)
+      → (Ignored ≡ Took tag) ↔ (P tag × (awaited tag ≡ true))
   took_none answers tag = (
     λ same. cc,
     λ a. let none = (answers tag).1 a.0 in cc,

@@ -13,14 +13,16 @@ use Rattle.aoe_client.specs.Fetching.{Fetching, asked_for, due_again, first_tag,
 use Rattle.aoe_client.specs.Asking.{Asking, first_due, then_sent, next_sent, both_ticked, with_slot}
 use Rattle.aoe_client.specs.Buffers.{BothHold, Holds}
 
-get_sent : (tags : List TagState) (k i : ℕ) → slice_get (slice_set tags k Sent) i ≡ Some Answered → slice_get tags i ≡ Some Answered
+get_sent : (tags : List TagState) (k i : ℕ) → slice_get (slice_set tags k Sent) i ≡ Some Answered
+    → slice_get tags i ≡ Some Answered
 get_sent [] k i is = is
 get_sent (x ∷ tags) zero zero is = cc
 get_sent (x ∷ tags) zero (suc i) is = is
 get_sent (x ∷ tags) (suc k) zero is = is
 get_sent (x ∷ tags) (suc k) (suc i) is = get_sent tags k i is
 
-get_again : (tags : List TagState) (i : ℕ) → slice_get (map due_again tags) i ≡ Some Answered → slice_get tags i ≡ Some Answered
+get_again : (tags : List TagState) (i : ℕ) → slice_get (map due_again tags) i ≡ Some Answered
+    → slice_get tags i ≡ Some Answered
 get_again [] i is = is
 get_again (Due ∷ tags) zero is = cc
 get_again (Sent ∷ tags) zero is = cc
@@ -35,7 +37,8 @@ get_due (suc count) zero is = cc
 get_due (suc count) (suc i) is = get_due count i is
 
 module _ (source : ℕ → List ℕ) (pool : Region) where
-  sent_holds : (tag : Option ℕ) (s : Option Fetching) → Holds source s pool → Holds source (option_map (sent tag) s) pool
+  sent_holds : (tag : Option ℕ) (s : Option Fetching) → Holds source s pool
+      → Holds source (option_map (sent tag) s) pool
   sent_holds tag None holds = tt
   sent_holds None (Some f) holds = holds
   sent_holds (Some tag) (Some f) holds = λ i is.
@@ -43,7 +46,8 @@ module _ (source : ℕ → List ℕ) (pool : Region) where
       ∙ ap (λ n. source (f.block * n + i)) (sym (length-set f.tags (tag - first_tag f) Sent))
 
   again_holds : (f : Fetching) (old : Bool) → Holds source (Some f) pool
-      → Holds source (Some (cond old (record f { age = 0; tags = map due_again f.tags }) (record f { age = f.age + 1 }))) pool
+      → Holds source (Some (cond old (record f { age = 0; tags = map due_again f.tags })
+      (record f { age = f.age + 1 }))) pool
   again_holds f true holds = λ i is.
       holds i (get_again f.tags i is) ∙ ap (λ n. source (f.block * n + i)) (sym (length-map f.tags due_again))
   again_holds f false holds = holds
@@ -58,7 +62,11 @@ module _ (source : ℕ → List ℕ) (pool : Region) where
 
   -- a tag that is sent leaves what they hold
   pub outlasts_sending : (c : Asking) → BothHold source c pool → BothHold source (next_sent c) pool
-  outlasts_sending c holds = (sent_holds (first_due c.demand) c.demand holds.0, then_holds (first_due c.demand) c.background holds.1)
+  outlasts_sending c holds = (
+    sent_holds (first_due c.demand) c.demand holds.0,
+    then_holds
+        (first_due c.demand) c.background holds.1,
+  )
 
   -- and so does a tick
   pub outlasts_ticks : (c : Asking) → BothHold source c pool → BothHold source (both_ticked c) pool
@@ -74,6 +82,7 @@ module _ (source : ℕ → List ℕ) (pool : Region) where
   outlasts_asking Background count block lease c holds = (holds.0, fresh count block lease)
 
   -- and a free slot has no buffer
-  pub outlasts_freeing : (slot : Slot) (c : Asking) → BothHold source c pool → BothHold source (with_slot slot None c) pool
+  pub outlasts_freeing : (slot : Slot) (c : Asking) → BothHold source c pool
+      → BothHold source (with_slot slot None c) pool
   outlasts_freeing Demand c holds = (tt, holds.1)
   outlasts_freeing Background c holds = (holds.0, tt)

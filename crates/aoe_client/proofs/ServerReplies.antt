@@ -22,15 +22,18 @@ use Rattle.aoe_client.specs.Messages.{Answers, IsReadOf, sectors_in}
 
 -- a request of 48-bit addresses doesn't ask what the server is
 identify_extended : (a : AtaPart) → a.flags ≡ EXTENDED → is_identify a ≡ false
-identify_extended a extended = ap (λ f. (a.command == 236) && (bit_and f EXTENDED == 0)) extended ∙ and_right (a.command == 236) false refl
+identify_extended a extended = ap (λ f. (a.command == 236) && (bit_and f EXTENDED == 0)) extended
+    ∙ and_right (a.command == 236) false refl
 
 -- an answer of status 50h to a request of 48-bit addresses has the sectors that were asked for
-good_answer : (sectors : ℕ) (image : List ℕ) (a x : AtaPart) → ata_answer (asked_in sectors a) sectors image a ≡ x → a.flags ≡ EXTENDED
+good_answer : (sectors : ℕ) (image : List ℕ) (a x : AtaPart) → ata_answer (asked_in sectors a) sectors image a ≡ x
+    → a.flags ≡ EXTENDED
     → x.command ≡ 80 → x.body ≡ bytes_at (512 * a.lba) (512 * a.count) image
 good_answer sectors image a x is extended good = elim (cases_Bool (is_read a)) [
   | inl reads ↦ elim (cases_Bool (nat_le (a.lba + a.count) sectors)) [
     | inl fits ↦ let it = rw (reads, fits) at is in sym (ap (λ y. y.body) it)
-    | inr past ↦ let it = rw (reads, past) at is in let bad = ap (λ y. y.command) it in absurd (omega (arith, bad, good))
+    | inr past ↦ let it = rw (reads, past) at is in let bad = ap (λ y. y.command) it in
+        absurd (omega (arith, bad, good))
   ]
   | inr other ↦
       let it = rw (other, identify_extended a extended) at is in
@@ -43,7 +46,8 @@ if_heard_is true x m is = cc
 if_heard_is false x m is = cc
 
 -- what an answer keeps of the request
-kept_registers : (sectors : ℕ) (image : List ℕ) (a : AtaPart) → ((ata_answer (asked_in sectors a) sectors image a).lba ≡ a.lba)
+kept_registers : (sectors : ℕ) (image : List ℕ) (a : AtaPart)
+    → ((ata_answer (asked_in sectors a) sectors image a).lba ≡ a.lba)
     × ((ata_answer (asked_in sectors a) sectors image a).count ≡ a.count)
     × ((ata_answer (asked_in sectors a) sectors image a).flags ≡ a.flags)
 kept_registers sectors image a = elim (cases_Bool (is_read a)) [
@@ -58,15 +62,18 @@ kept_registers sectors image a = elim (cases_Bool (is_read a)) [
 ]
 
 module _ (sectors : ℕ) (image : List ℕ) (tag : ℕ) where
-  nothing_read : (taken : Argument) (written : List ℕ) → length written < 12 → HasArgument written taken → IsReadOf taken tag → ⊥
+  nothing_read : (taken : Argument) (written : List ℕ) → length written < 12 → HasArgument written taken
+      → IsReadOf taken tag → ⊥
   nothing_read (Ata t) written few has read = omega (arith, few, has.1)
   nothing_read (Config c) written few has read = read
   nothing_read Other written few has read = read
 
   -- the sectors of an answer to a command, by what is read of it
   ata_sectors : (a : AtaPart) (taken : Argument) → AtaFits a → ArgumentFits taken
-      → HasArgument (argument_written (Ata (ata_answer (asked_in sectors a) sectors image a))) taken → IsReadOf taken tag
-      → drop 12 (argument_written (Ata (ata_answer (asked_in sectors a) sectors image a))) ≡ bytes_at (1024 * tag) 1024 image
+      → HasArgument (argument_written (Ata (ata_answer (asked_in sectors a) sectors image a))) taken
+      → IsReadOf taken tag
+      → drop 12 (argument_written (Ata (ata_answer (asked_in sectors a) sectors image a))) ≡ bytes_at
+      (1024 * tag) 1024 image
   ata_sectors a (Config c) fits fits_t has read = absurd read
   ata_sectors a Other fits fits_t has read = absurd read
   ata_sectors a (Ata t) fits fits_t has read =
@@ -113,7 +120,8 @@ module _ (sectors : ℕ) (image : List ℕ) (tag : ℕ) where
       rw (← it) (reply_sectors q.header q.argument taken reads.says.fits fits has_it read)
 
   sizes_to : (h : Header) (asked : Argument) → length h.source ≡ 6
-      → (length (reply_to sectors image h asked).header.dest ≡ 6) × (length (reply_to sectors image h asked).header.source ≡ 6)
+      → (length (reply_to sectors image h asked).header.dest ≡ 6) × (length
+      (reply_to sectors image h asked).header.source ≡ 6)
   sizes_to h (Ata a) long = (long, refl)
   sizes_to h Other long = (long, refl)
   sizes_to h (Config c) long = elim (cases_Bool (c.code == 0)) [
@@ -132,12 +140,14 @@ module _ (sectors : ℕ) (image : List ℕ) (tag : ℕ) where
       rw (← it) (sizes_to q.header q.argument reads.says.header.fits.source)
 
   -- a frame of the server that is taken for a tag has the tag's sectors of the image
-  pub image_sectors : (r : Result Aoe FrameFault) (asked bytes : List ℕ) (m : Aoe) → IsReading asked r → reply sectors image r ≡ Some m
+  pub image_sectors : (r : Result Aoe FrameFault) (asked bytes : List ℕ) (m : Aoe) → IsReading asked r
+      → reply sectors image r ≡ Some m
       → bytes ≡ frame_of m → Answers bytes tag → sectors_in bytes ≡ bytes_at (1024 * tag) 1024 image
   image_sectors r asked bytes m reads is frame taken =
       let size = sizes r asked m reads is in
       let behind : drop 24 bytes ≡ argument_written m.argument =
-      ap (drop 24) frame ∙ drop_at (header_bytes m.header) (argument_written m.argument) 24 (length-header_bytes m.header size.0 size.1) in
+      ap (drop 24) frame ∙ drop_at (header_bytes m.header) (argument_written m.argument) 24
+      (length-header_bytes m.header size.0 size.1) in
       let says = taken.1.0.says in
       let has = rw behind at says.argument in
       ap (take 1024) (sym (drop-drop 12 24 bytes) ∙ ap (drop 12) behind

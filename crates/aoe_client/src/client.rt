@@ -73,8 +73,8 @@ impl Client {
         }
     }
 
-    /// Asks for a block in a slot, into the buffer of this lease: all its tags are due. The lease is handed back exactly
-    /// where the slot is in use.
+    /// Asks for a block in a slot, into the buffer of this lease: all its tags are due. The lease is handed back
+    /// exactly where the slot is in use.
     pub fn ask(&mut self, slot: Slot, block: u32, lease: Lease) -> Result<(), (Lease, Full)>
         requires { block * self.old.block + self.old.block ≤ 2 ^ 32 }
         ensures full { IsErr result ↔ IsSome (in_slot slot self.old) }
@@ -158,8 +158,8 @@ impl Client {
         }
     }
 
-    /// Hands over a block that was asked for, by its number and the lease of its buffer, and frees the slot; None exactly
-    /// where the slot is free or a tag of it isn't answered.
+    /// Hands over a block that was asked for, by its number and the lease of its buffer, and frees the slot; None
+    /// exactly where the slot is free or a tag of it isn't answered.
     pub fn done(&mut self, slot: Slot) -> Option<(u32, Lease)>
         ensures fetched { result ≡ done_in (in_slot slot self.old) }
         ensures after { self.new

@@ -1,5 +1,5 @@
-//! Laws of the client: what the buffers hold outlasts every call that hears no frame, and what they hold of the server's
-//! replies is the image's.
+//! Laws of the client: what the buffers hold outlasts every call that hears no frame, and what they hold of the
+//! server's replies is the image's.
 
 ghost use Rattle.std.specs.Prelude.{◌≡◌, ◌*◌, ℕ, List, None, Result, Some};
 ghost use Rattle.bm_host.specs.Outside.{bytes_at};

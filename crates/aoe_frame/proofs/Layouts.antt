@@ -15,18 +15,23 @@ use Rattle.aoe_frame.specs.Reading.{IsAoe, bytes_needed}
 
 -- two lists with fronts of one length
 same_front : (n : ℕ) (a b x y : List ℕ) → length a ≡ n → length b ≡ n → a ++ x ≡ b ++ y → (a ≡ b) × (x ≡ y)
-same_front n a b x y la lb e =
-    (sym (take_at a x n la) ∙ ap (take n) e ∙ take_at b y n lb, sym (drop_at a x n la) ∙ ap (drop n) e ∙ drop_at b y n lb)
+same_front n a b x y la lb e = (
+  sym (take_at a x n la) ∙ ap (take n) e ∙ take_at b y n lb,
+  sym (drop_at a x n la) ∙ ap (drop n) e
+      ∙ drop_at b y n lb,
+)
 
 -- a number's bytes are no other's that fits
 same_big : (n x y : ℕ) → x < 256 ^ n → y < 256 ^ n → big_bytes n x ≡ big_bytes n y → x ≡ y
 same_big n x y fits_x fits_y e =
-    sym (big_number-reads_back n x [] fits_x) ∙ ap (λ bytes. big_from 0 n (bytes ++ [])) e ∙ big_number-reads_back n y [] fits_y
+    sym (big_number-reads_back n x [] fits_x) ∙ ap (λ bytes. big_from 0 n (bytes ++ [])) e
+    ∙ big_number-reads_back n y [] fits_y
 
 -- and the same with the lowest byte first
 pub same_little : (n x y : ℕ) → x < 256 ^ n → y < 256 ^ n → little_bytes n x ≡ little_bytes n y → x ≡ y
 same_little n x y fits_x fits_y e =
-    sym (little_number-reads_back n x [] fits_x) ∙ ap (λ bytes. little_from 0 n (bytes ++ [])) e ∙ little_number-reads_back n y [] fits_y
+    sym (little_number-reads_back n x [] fits_x) ∙ ap (λ bytes. little_from 0 n (bytes ++ [])) e
+    ∙ little_number-reads_back n y [] fits_y
 
 same_halves : (a b x y : ℕ) → b < 16 → y < 16 → halves a b ≡ halves x y → (a ≡ x) × (b ≡ y)
 same_halves a b x y fits_b fits_y e = (omega arith, omega arith)
@@ -34,9 +39,11 @@ same_halves a b x y fits_b fits_y e = (omega arith, omega arith)
 -- the header behind its two addresses
 behind : Header → List ℕ
 behind h =
-    big_bytes 2 ETHER_TYPE ++ (halves h.version h.flags ∷ h.error ∷ (big_bytes 2 h.major ++ (h.minor ∷ h.command ∷ big_bytes 4 h.tag)))
+    big_bytes 2 ETHER_TYPE ++ (halves h.version
+    h.flags ∷ h.error ∷ (big_bytes 2 h.major ++ (h.minor ∷ h.command ∷ big_bytes 4 h.tag)))
 
-same_behind : (a b : Header) → HeaderFits a → HeaderFits b → a.dest ≡ b.dest → a.source ≡ b.source → behind a ≡ behind b → a ≡ b
+same_behind : (a b : Header) → HeaderFits a → HeaderFits b → a.dest ≡ b.dest → a.source ≡ b.source
+    → behind a ≡ behind b → a ≡ b
 unfolding behind
 same_behind a b fits_a fits_b dest source e =
     let versions = same_halves a.version a.flags b.version b.flags fits_a.flags fits_b.flags (cc) in
@@ -64,7 +71,8 @@ laid_apart h = simp append_assoc
 pub same_header : (a b : Header) → HeaderFits a → HeaderFits b → header_bytes a ≡ header_bytes b → a ≡ b
 same_header a b fits_a fits_b e =
     let apart = sym (laid_apart a) ∙ e ∙ laid_apart b in
-    let first = same_front 6 a.dest b.dest (a.source ++ behind a) (b.source ++ behind b) fits_a.dest fits_b.dest apart in
+    let first = same_front 6 a.dest b.dest (a.source ++ behind a) (b.source ++ behind b) fits_a.dest
+    fits_b.dest apart in
     let second = same_front 6 a.source b.source (behind a) (behind b) fits_a.source fits_b.source first.1 in
     same_behind a b fits_a fits_b first.0 second.0 second.1
 
@@ -124,7 +132,8 @@ one_header bytes a b has_a has_b = same_header a b has_a.fits has_b.fits (sym ha
 pub one_message : (bytes : List ℕ) (a b : Aoe) → Says bytes a → Says bytes b → a ≡ b
 one_message bytes a b says_a says_b =
     let headers = one_header bytes a.header b.header says_a.header says_b.header in
-    let of_b : IsOf a.header.command b.argument = subst (λ (h : Header). IsOf h.command b.argument) (sym headers) says_b.kind in
+    let of_b : IsOf a.header.command b.argument = subst (λ (h : Header). IsOf h.command b.argument)
+    (sym headers) says_b.kind in
     let arguments = same_argument (drop 24 bytes) a.header.command a.argument b.argument says_a.kind of_b
     says_a.argument says_b.argument says_a.fits says_b.fits in
     λ i. record { header = headers i; argument = arguments i }
@@ -135,7 +144,13 @@ length-header_bytes h dest source = simp (length-append, dest, source)
 
 -- bytes with a header are as many as it has
 pub header_long : (bytes : List ℕ) (h : Header) → HasHeader bytes h → 24 ≤ length bytes
-header_long bytes h has = omega (arith, ap length has.laid, length-header_bytes h has.fits.dest has.fits.source, length-take 24 bytes)
+header_long bytes h has = omega (
+  arith,
+  ap length has.laid,
+  length-header_bytes h has.fits.dest
+      has.fits.source,
+  length-take 24 bytes,
+)
 
 take_fewer : (xs : List ℕ) → take 2 (take 12 xs) ≡ take 2 xs
 take_fewer [] = refl
@@ -148,8 +163,10 @@ unfolding behind
 header_type bytes h has =
     let left : drop 12 (take 24 bytes) ≡ take 12 (drop 12 bytes) = drop-take 12 12 bytes in
     let addresses : length (h.dest ++ h.source) ≡ 12 = simp (length-append, has.fits.dest, has.fits.source) refl in
-    let apart : header_bytes h ≡ (h.dest ++ h.source) ++ behind h = laid_apart h ∙ sym (append_assoc h.dest h.source (behind h)) in
-    let right : drop 12 (header_bytes h) ≡ behind h = ap (drop 12) apart ∙ drop_at (h.dest ++ h.source) (behind h) 12 addresses in
+    let apart : header_bytes h ≡ (h.dest ++ h.source) ++ behind h = laid_apart h
+    ∙ sym (append_assoc h.dest h.source (behind h)) in
+    let right : drop 12 (header_bytes h) ≡ behind h = ap (drop 12) apart ∙ drop_at (h.dest ++ h.source)
+    (behind h) 12 addresses in
     sym (take_fewer (drop 12 bytes)) ∙ ap (take 2) (sym left ∙ ap (drop 12) has.laid ∙ right)
 
 -- bytes behind a header that have an argument are as many as it needs

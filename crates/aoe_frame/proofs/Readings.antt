@@ -12,7 +12,8 @@ use Rattle.aoe_frame.specs.Reading.IsShort.{BeforeType, InHeader, InArgument}
 use Rattle.aoe_frame.proofs.Layouts.{one_header, one_message, header_long, header_type, argument_long}
 
 -- bytes with a header whose argument isn't cut aren't too short
-not_short : (bytes : List ℕ) (h : Header) → HasHeader bytes h → (h.version ≡ VERSION → bytes_needed h.command ≤ length bytes)
+not_short : (bytes : List ℕ) (h : Header) → HasHeader bytes h
+    → (h.version ≡ VERSION → bytes_needed h.command ≤ length bytes)
     → IsShort bytes → ⊥
 not_short bytes h has whole (BeforeType below) = let long = header_long bytes h has in omega arith
 not_short bytes h has whole (InHeader aoe below) = let long = header_long bytes h has in omega arith
@@ -54,7 +55,8 @@ one_fault bytes NotAoe (Version h) reads_a reads_b = absurd (reads_a.other (head
 one_fault bytes (Version h) Short reads_a reads_b =
     absurd (not_short bytes h reads_a.header (λ spoken. absurd (reads_a.other spoken)) reads_b)
 one_fault bytes (Version h) NotAoe reads_a reads_b = absurd (reads_b.other (header_type bytes h reads_a.header))
-one_fault bytes (Version h) (Version k) reads_a reads_b = ap Version (one_header bytes h k reads_a.header reads_b.header)
+one_fault bytes (Version h) (Version k) reads_a reads_b =
+    ap Version (one_header bytes h k reads_a.header reads_b.header)
 
 -- a frame has one reading
 pub one_reading : (bytes : List ℕ) (a b : Result Aoe FrameFault) → IsReading bytes a → IsReading bytes b → a ≡ b
@@ -70,7 +72,8 @@ reads_exactly bytes answer a reads = (λ is. subst (IsReading bytes) is reads, o
 
 -- a header and an argument are a message
 pub read_whole : (bytes : List ℕ) (h : Header) (a : Argument) → HasHeader bytes h → h.version ≡ VERSION
-    → IsOf h.command a × HasArgument (drop 24 bytes) a × ArgumentFits a → IsMessage bytes (record { header = h; argument = a })
+    → IsOf h.command a × HasArgument (drop 24 bytes) a × ArgumentFits a
+    → IsMessage bytes (record { header = h; argument = a })
 read_whole bytes h a has spoken parts = record {
   says = record { header = has; kind = parts.0; argument = parts.1; fits = parts.2 };
   version = spoken;

@@ -28,7 +28,8 @@ written_says m fits of =
     }
 
 -- and is read so
-pub written_reads : (m : Aoe) → Fits m → IsOf m.header.command m.argument → m.header.version ≡ VERSION → IsReading (frame_of m) (Ok m)
+pub written_reads : (m : Aoe) → Fits m → IsOf m.header.command m.argument → m.header.version ≡ VERSION
+    → IsReading (frame_of m) (Ok m)
 written_reads m fits of version = record { says = written_says m fits of; version = version }
 
 shortest_argument : (bytes : List ℕ) (a : Argument) → HasArgument bytes a → length (argument_written a) ≤ length bytes

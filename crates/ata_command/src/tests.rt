@@ -1,7 +1,7 @@
 //! The table of commands over registers that were set by hand.
 //!
-//! Each test is of one command, and its rows are worked out by hand from the layout of the registers. The last column is
-//! the first sector and the count of the order, or why it is refused.
+//! Each test is of one command, and its rows are worked out by hand from the layout of the registers. The last column
+//! is the first sector and the count of the order, or why it is refused.
 
 use crate::read_request;
 use ata_taskfile::Form::{DmaIn, DmaOut, NoMove, PioIn, PioOut};
@@ -48,8 +48,8 @@ fn order(kind: Kind, form: Form, extended: bool, range: Range) -> Result<Request
 // Device, Sector Count, LBA Low, Mid and High, the drive's sectors; the range.
 type Row28 = (u8, u8, [u8; 3], u64, Range);
 
-// The first row in which a command of 28 bits has another answer: its place, and that answer. Each previous byte is A5h,
-// which no such command reads.
+// The first row in which a command of 28 bits has another answer: its place, and that answer. Each previous byte is
+// A5h, which no such command reads.
 fn first_other_28(
     command: u8,
     kind: Kind,

@@ -13,7 +13,8 @@ use Rattle.ata_taskfile.specs.Device.{is_moving, bus_in_reset}
 use Rattle.ata_taskfile.specs.Lawful.{has_order, IsLawfulState}
 
 -- a walk that a reset ends
-pub bus_in_reset_lawful : (now : Phase) (f : TaskFile) (b : Bus) (words n : ℕ) → IsLawfulState f b words n → IsLawfulState f (bus_in_reset now b) words n
+pub bus_in_reset_lawful : (now : Phase) (f : TaskFile) (b : Bus) (words n : ℕ) → IsLawfulState f b words n
+    → IsLawfulState f (bus_in_reset now b) words n
 bus_in_reset_lawful now f b words n l = grind arith
 
 -- a reset that ends
@@ -22,31 +23,39 @@ pub reset_ended_lawful : (f : TaskFile) (b : Bus) (words n : ℕ) → f.phase �
 reset_ended_lawful f b words n e free l = grind arith
 
 -- a command that fails, and had no walk to itself
-pub failed_lawful : (error : ℕ) (f g : TaskFile) (b : Bus) (words n : ℕ) → has_order f.phase ≡ true → is_moving f.phase ≡ false → g.control ≡ f.control
+pub failed_lawful : (error : ℕ) (f g : TaskFile) (b : Bus) (words n : ℕ) → has_order f.phase ≡ true
+    → is_moving f.phase ≡ false → g.control ≡ f.control
     → IsLawfulState f b words n → IsLawfulState (ended_failed error g) b words n
 failed_lawful error f g b words n in_hand still c l = grind arith
 
 -- a refused command that ends
-pub refused_lawful : (reason : Refused) (f : TaskFile) (b : Bus) (words n : ℕ) → has_order f.phase ≡ true → is_moving f.phase ≡ false
+pub refused_lawful : (reason : Refused) (f : TaskFile) (b : Bus) (words n : ℕ) → has_order f.phase ≡ true
+    → is_moving f.phase ≡ false
     → IsLawfulState f b words n → IsLawfulState (refused reason f) b words n
-refused_lawful reason f b words n in_hand still l = failed_lawful (refusal_bit reason) f f b words n in_hand still refl l
+refused_lawful reason f b words n in_hand still l = failed_lawful (refusal_bit reason) f f b words
+    n in_hand still refl l
 
 -- the sector that is due of a block that is read
-pub is_due : (f : TaskFile) (b : Bus) (words n : ℕ) (order : Request) (done : ℕ) → f.phase ≡ Busy (Good order) done → gives_words order.form ≡ true
+pub is_due : (f : TaskFile) (b : Bus) (words n : ℕ) (order : Request) (done : ℕ) → f.phase ≡ Busy (Good order) done
+    → gives_words order.form ≡ true
     → IsLawfulState f b words n → order.first + done < n
 is_due f b words n order done e gives l = grind arith
 
 -- a block that waits in Data
-pub announced_lawful : (f : TaskFile) (b : Bus) (words n : ℕ) (order : Request) (done : ℕ) → f.phase ≡ Busy (Good order) done → gives_words order.form ≡ true
+pub announced_lawful : (f : TaskFile) (b : Bus) (words n : ℕ) (order : Request) (done : ℕ)
+    → f.phase ≡ Busy (Good order) done → gives_words order.form ≡ true
     → IsLawfulState f b words n → IsLawfulState (announced (Ready (Good order) done 256) f) b 256 n
 announced_lawful f b words n order done e gives l = grind arith
 
 -- a word that is taken
-pub word_taken_lawful : (f : TaskFile) (b : Bus) (words n : ℕ) (order : Request) (done left : ℕ) → f.phase ≡ Ready (Good order) done left
-    → takes_words order.form ≡ true → IsLawfulState f b words n → IsLawfulState (record f { phase = word_taken order done left }) b (words + 1) n
+pub word_taken_lawful : (f : TaskFile) (b : Bus) (words n : ℕ) (order : Request) (done left : ℕ)
+    → f.phase ≡ Ready (Good order) done left
+    → takes_words order.form ≡ true → IsLawfulState f b words n
+    → IsLawfulState (record f { phase = word_taken order done left }) b (words + 1) n
 word_taken_lawful f b words n order done left e takes l = grind arith
 
 -- there is room for a word that is wanted
-pub room_for_word : (f : TaskFile) (b : Bus) (words n : ℕ) (order : Request) (done left : ℕ) → f.phase ≡ Ready (Good order) done left
+pub room_for_word : (f : TaskFile) (b : Bus) (words n : ℕ) (order : Request) (done left : ℕ)
+    → f.phase ≡ Ready (Good order) done left
     → takes_words order.form ≡ true → IsLawfulState f b words n → words < 256
 room_for_word f b words n order done left e takes l = grind arith

@@ -1,7 +1,7 @@
 -- Each access leaves a lawful device lawful.
 --
--- First what the rules look at of registers and bus master (AreLawful), then registers, bus master, block and count of sectors
--- (IsLawfulState) by what a write did, and at last the whole device by access.
+-- First what the rules look at of registers and bus master (AreLawful), then registers, bus master, block and count
+-- of sectors (IsLawfulState) by what a write did, and at last the whole device by access.
 use Rattle.std.proofs.Common.{◌≡◌, ℕ, ◌≤◌, List, length, Bool, true, false, ◌||◌, if◌then◌else◌, bit_and, refl, sym, ap, subst, ◌∙◌, arith}
 use Rattle.std.proofs.lemmas.Nat.{and_assoc}
 use Rattle.std.proofs.lemmas.Grind.{common_steps}
@@ -17,7 +17,7 @@ use Rattle.ata_taskfile.specs.declared.Access.TheVariants as access
 use Rattle.ata_taskfile.specs.declared.task_file.TaskFile.{TaskFile}
 use Rattle.ata_taskfile.specs.declared.bus_master.Bus.{Bus}
 use Rattle.ata_taskfile.specs.declared.registers.TheConstants.{SRST, DEV}
-use Rattle.ata_taskfile.specs.TaskFile.{is_of_bus, control_wrote, in_reset, selects_absent, has_command, line, stored, has_bit, after_read, wrote, after_write, is_at_work}
+use Rattle.ata_taskfile.specs.TaskFile.{is_of_bus, control_wrote, in_reset, selects_absent, takes_no_command, line, stored, has_bit, after_read, wrote, after_write, is_at_work}
 use Rattle.ata_taskfile.specs.Bus.{raised, bus_written, pointer_written}
 use Rattle.ata_taskfile.specs.Order.{inputs, Inputs, order_of, taken}
 use Rattle.ata_taskfile.specs.Data.{phase_after_read, phase_after_write, block_after_write}
@@ -56,7 +56,7 @@ taken-block : (order : Taken) (words : ℕ) → words ≡ words_in (Busy order 0
 taken-block order words = grind arith
 
 -- a Command write is taken in Idle alone, and with DEV at 0
-is_idle : (phase : Phase) (absent : Bool) → (has_command phase || absent) ≡ false → phase ≡ Idle
+is_idle : (phase : Phase) (absent : Bool) → (takes_no_command phase || absent) ≡ false → phase ≡ Idle
 is_idle phase absent e = grind arith
 
 is_selected : (busy absent : Bool) → (busy || absent) ≡ false → absent ≡ false
@@ -64,11 +64,13 @@ is_selected busy absent e = grind arith
 
 -- a word that is read from Data, or written there
 words_read-lawful : (device error c : ℕ) (failed pending : Bool) (phase : Phase) (b : Bus)
-    → AreLawful c device error failed pending phase b → AreLawful c device error failed pending (phase_after_read phase) b
+    → AreLawful c device error failed pending phase b → AreLawful c device error failed pending
+    (phase_after_read phase) b
 words_read-lawful device error c failed pending phase b l = grind arith
 
 words_written-lawful : (device error c : ℕ) (failed pending : Bool) (phase : Phase) (b : Bus)
-    → AreLawful c device error failed pending phase b → AreLawful c device error failed pending (phase_after_write phase) b
+    → AreLawful c device error failed pending phase b → AreLawful c device error failed pending
+    (phase_after_write phase) b
 words_written-lawful device error c failed pending phase b l = grind arith
 
 -- the sectors of its order are on the drive
@@ -79,15 +81,18 @@ write_word-within : (phase : Phase) (n : ℕ) → end_of phase ≤ n → end_of 
 write_word-within phase n h = grind arith
 
 -- the block has as many words as its phase says
-read_word-block : (phase : Phase) (words : ℕ) → IsLawfulPhase phase → words ≡ words_in phase words → words ≡ words_in (phase_after_read phase) words
+read_word-block : (phase : Phase) (words : ℕ) → IsLawfulPhase phase → words ≡ words_in phase words
+    → words ≡ words_in (phase_after_read phase) words
 read_word-block phase words l e = grind arith
 
-write_word-block : (phase : Phase) (w : ℕ) (block : List ℕ) → IsLawfulPhase phase → length block ≡ words_in phase (length block)
-    → length (block_after_write w phase block) ≡ words_in (phase_after_write phase) (length (block_after_write w phase block))
+write_word-block : (phase : Phase) (w : ℕ) (block : List ℕ) → IsLawfulPhase phase
+    → length block ≡ words_in phase (length block)
+    → length (block_after_write w phase block) ≡ words_in (phase_after_write phase)
+    (length (block_after_write w phase block))
 write_word-block phase w block l e = grind (arith, common_steps)
 
--- what is lawful after a write that did this in such a phase: the registers that it left, where it took a command with its order in hand,
--- and where it began a reset with the bus master that this leaves
+-- what is lawful after a write that did this in such a phase: the registers that it left, where it took a command
+-- with its order in hand, and where it began a reset with the bus master that this leaves
 abbrev IsLawfulAfter : Wrote → Phase → TaskFile → Bus → ℕ → ℕ → Type 0
 IsLawfulAfter Stored phase g b words n = IsLawfulState g b words n
 IsLawfulAfter Ignored phase g b words n = IsLawfulState g b words n
@@ -97,7 +102,8 @@ IsLawfulAfter ResetBegun phase g b words n = IsLawfulState g (bus_in_reset phase
 module _ (f : TaskFile) (b : Bus) (words n : ℕ) (l : IsLawfulState f b words n) where
   -- a write to the command block that is no command
   block-written : (at_work : Bool) (g : TaskFile) → is_at_work f.phase ≡ at_work
-      → g.control ≡ bit_and f.control 127 → g.error ≡ f.error → g.failed ≡ f.failed → g.pending ≡ f.pending → g.phase ≡ f.phase
+      → g.control ≡ bit_and f.control 127 → g.error ≡ f.error → g.failed ≡ f.failed → g.pending ≡ f.pending
+      → g.phase ≡ f.phase
       → IsLawfulAfter (if at_work then Ignored else Stored) f.phase (if at_work then f else g) b words n
   block-written true g at c e failed p phase = l
   block-written false g at c e failed p phase =
@@ -106,29 +112,33 @@ module _ (f : TaskFile) (b : Bus) (words n : ℕ) (l : IsLawfulState f b words n
       grind (arith, k, s)
 
   -- a write of Command
-  command-written : (ignored : Bool) (v : ℕ) → (has_command f.phase || selects_absent f) ≡ ignored
-      → IsLawfulAfter (if ignored then Ignored else Command v) f.phase (if ignored then f else stored reg.Status v f) b words n
+  command-written : (ignored : Bool) (v : ℕ) → (takes_no_command f.phase || selects_absent f) ≡ ignored
+      → IsLawfulAfter (if ignored then Ignored else Command v) f.phase (if ignored then f else stored reg.Status v f)
+      b words n
   command-written true v e = l
   command-written false v e =
       let order : Taken = taken (order_of v (inputs f) n) in
       let idle = is_idle f.phase (selects_absent f) e in
-      let here = is_selected (has_command f.phase) (selects_absent f) e in
+      let here = is_selected (takes_no_command f.phase) (selects_absent f) e in
       let possible = order-possible v n (inputs f) in
       record {
-        registers = taken-lawful f.device f.control f.error f.failed f.pending f.phase b order idle here possible l.registers;
+        registers = taken-lawful f.device f.control f.error f.failed f.pending f.phase b order idle
+            here possible l.registers;
         within = order-within v n (inputs f);
         block = taken-block order words;
       }
 
   -- a write of Device Control that begins no reset
-  kept_phase : (v : ℕ) → (has_bit SRST v ≡ true → is_in_reset f.phase ≡ true) → IsLawfulState (record f { control = bit_and v 134 }) b words n
+  kept_phase : (v : ℕ) → (has_bit SRST v ≡ true → is_in_reset f.phase ≡ true)
+      → IsLawfulState (record f { control = bit_and v 134 }) b words n
   kept_phase v held =
       let k = and_assoc 134 v 134 in
       let s = and_assoc 4 v 134 in
       grind (arith, k, s)
 
   -- one that begins a reset
-  begun : (v : ℕ) → IsLawfulState (record f { control = bit_and v 134; phase = Reset; pending = false }) (bus_in_reset f.phase b) words n
+  begun : (v : ℕ) → IsLawfulState (record f { control = bit_and v 134; phase = Reset; pending = false })
+      (bus_in_reset f.phase b) words n
   begun v =
       let k = and_assoc 134 v 134 in
       let s = and_assoc 4 v 134 in
@@ -145,7 +155,8 @@ module _ (f : TaskFile) (b : Bus) (words n : ℕ) (l : IsLawfulState f b words n
   -- any write of Device Control
   control-written : (srst : Bool) (v : ℕ) → has_bit SRST v ≡ srst
       → IsLawfulAfter (if srst then control_wrote f.phase else Stored) f.phase
-      (if srst then in_reset f.phase (record f { control = bit_and v 134 }) else record f { control = bit_and v 134 }) b words n
+      (if srst then in_reset f.phase (record f { control = bit_and v 134 }) else record f { control = bit_and v 134 })
+      b words n
   control-written true v e = held-written f.phase v refl
   control-written false v e = kept_phase v (λ srst. cc)
 
@@ -157,42 +168,51 @@ module _ (f : TaskFile) (b : Bus) (words n : ℕ) (l : IsLawfulState f b words n
   written-lawful reg.Mid v = block-written (is_at_work f.phase) (stored reg.Mid v f) refl refl refl refl refl refl
   written-lawful reg.High v = block-written (is_at_work f.phase) (stored reg.High v f) refl refl refl refl refl refl
   written-lawful reg.Device v = block-written (is_at_work f.phase) (stored reg.Device v f) refl refl refl refl refl refl
-  written-lawful reg.Status v = command-written (has_command f.phase || selects_absent f) v refl
+  written-lawful reg.Status v = command-written (takes_no_command f.phase || selects_absent f) v refl
   written-lawful reg.Alternate v = control-written (has_bit SRST v) v refl
   written-lawful reg.BusCommand v = l
   written-lawful reg.BusStatus v = l
 
 -- the same of a write of which it is known what it did
-wrote-lawful : (did : Wrote) (r : Reg) (v : ℕ) (f : TaskFile) (b : Bus) (words n : ℕ) → wrote r v f ≡ did → IsLawfulState f b words n
+wrote-lawful : (did : Wrote) (r : Reg) (v : ℕ) (f : TaskFile) (b : Bus) (words n : ℕ) → wrote r v f ≡ did
+    → IsLawfulState f b words n
     → IsLawfulAfter did f.phase (after_write r v f) b words n
-wrote-lawful did r v f b words n is l = subst (λ did. IsLawfulAfter did f.phase (after_write r v f) b words n) is (written-lawful f b words n l r v)
+wrote-lawful did r v f b words n is l = subst (λ did. IsLawfulAfter did f.phase (after_write r v f) b words n) is
+    (written-lawful f b words n l r v)
 
-pub stored_lawful : (r : Reg) (v : ℕ) (f : TaskFile) (b : Bus) (words n : ℕ) → wrote r v f ≡ Stored → IsLawfulState f b words n
+pub stored_lawful : (r : Reg) (v : ℕ) (f : TaskFile) (b : Bus) (words n : ℕ) → wrote r v f ≡ Stored
+    → IsLawfulState f b words n
     → IsLawfulState (after_write r v f) b words n
 stored_lawful = wrote-lawful Stored
 
-pub command_lawful : (r : Reg) (v byte : ℕ) (f : TaskFile) (b : Bus) (words n : ℕ) → wrote r v f ≡ Command byte → IsLawfulState f b words n
+pub command_lawful : (r : Reg) (v byte : ℕ) (f : TaskFile) (b : Bus) (words n : ℕ) → wrote r v f ≡ Command byte
+    → IsLawfulState f b words n
     → IsLawfulState (in_hand byte n (after_write r v f)) b words n
 command_lawful r v byte = wrote-lawful (Command byte) r v
 
-pub reset_lawful : (r : Reg) (v : ℕ) (f : TaskFile) (b : Bus) (words n : ℕ) → wrote r v f ≡ ResetBegun → IsLawfulState f b words n
+pub reset_lawful : (r : Reg) (v : ℕ) (f : TaskFile) (b : Bus) (words n : ℕ) → wrote r v f ≡ ResetBegun
+    → IsLawfulState f b words n
     → IsLawfulState (after_write r v f) (bus_in_reset f.phase b) words n
 reset_lawful = wrote-lawful ResetBegun
 
 -- a rise of the line
-pub raised_lawful : (was now : Bool) (f : TaskFile) (b : Bus) (words n : ℕ) → IsLawfulState f b words n → IsLawfulState f (raised was now b) words n
+pub raised_lawful : (was now : Bool) (f : TaskFile) (b : Bus) (words n : ℕ) → IsLawfulState f b words n
+    → IsLawfulState f (raised was now b) words n
 raised_lawful was now f b words n l = grind arith
 
 -- a read of a register of the task file
-read_lawful : (r : Reg) (f : TaskFile) (b : Bus) (words n : ℕ) → IsLawfulState f b words n → IsLawfulState (after_read r f) b words n
+read_lawful : (r : Reg) (f : TaskFile) (b : Bus) (words n : ℕ) → IsLawfulState f b words n
+    → IsLawfulState (after_read r f) b words n
 read_lawful r f b words n l = grind arith
 
 -- a write of a register of the bus master
-pub bus_written_lawful : (r : Reg) (v : ℕ) (f : TaskFile) (b : Bus) (words n : ℕ) → IsLawfulState f b words n → IsLawfulState f (bus_written r v b) words n
+pub bus_written_lawful : (r : Reg) (v : ℕ) (f : TaskFile) (b : Bus) (words n : ℕ) → IsLawfulState f b words n
+    → IsLawfulState f (bus_written r v b) words n
 bus_written_lawful r v f b words n l = grind arith
 
 -- a write of the pointer
-pointer_lawful : (v : ℕ) (f : TaskFile) (b : Bus) (words n : ℕ) → IsLawfulState f b words n → IsLawfulState f (pointer_written v b) words n
+pointer_lawful : (v : ℕ) (f : TaskFile) (b : Bus) (words n : ℕ) → IsLawfulState f b words n
+    → IsLawfulState f (pointer_written v b) words n
 pointer_lawful v f b words n l = grind arith
 
 module _ (d : Device) (l : IsLawful d) where
@@ -202,7 +222,8 @@ module _ (d : Device) (l : IsLawful d) where
   with_line g b h = raised_lawful (line d.file) (line g) g b (length d.block) d.sectors h
 
   -- a write to a register of the task file
-  file-written : (did : Wrote) (g : TaskFile) → IsLawfulAfter did d.file.phase g d.bus (length d.block) d.sectors → IsLawful (after_wrote did g d)
+  file-written : (did : Wrote) (g : TaskFile) → IsLawfulAfter did d.file.phase g d.bus (length d.block) d.sectors
+      → IsLawful (after_wrote did g d)
   file-written Stored g h = with_line g d.bus h
   file-written Ignored g h = l
   file-written (Command byte) g h = with_line (in_hand byte d.sectors g) d.bus h
@@ -210,14 +231,17 @@ module _ (d : Device) (l : IsLawful d) where
 
   -- a write to any register
   written : (of_bus : Bool) (r : Reg) (v : ℕ)
-      → IsLawful (if of_bus then with_bus (bus_written r v d.bus) d else after_wrote (wrote r v d.file) (after_write r v d.file) d)
+      → IsLawful (if of_bus then with_bus (bus_written r v d.bus) d else after_wrote (wrote r v d.file)
+      (after_write r v d.file) d)
   written true r v = bus_written_lawful r v d.file d.bus (length d.block) d.sectors l
-  written false r v = file-written (wrote r v d.file) (after_write r v d.file) (written-lawful d.file d.bus (length d.block) d.sectors l r v)
+  written false r v = file-written (wrote r v d.file) (after_write r v d.file)
+      (written-lawful d.file d.bus (length d.block) d.sectors l r v)
 
   -- a word read from Data
   word_read : IsLawful (accessed access.ReadWord d)
   word_read = record {
-    registers = words_read-lawful d.file.device d.file.error d.file.control d.file.failed d.file.pending d.file.phase d.bus l.registers;
+    registers = words_read-lawful d.file.device d.file.error d.file.control d.file.failed d.file.pending
+        d.file.phase d.bus l.registers;
     within = read_word-within d.file.phase d.sectors l.within;
     block = read_word-block d.file.phase (length d.block) l.registers.goes_on l.block;
   }
@@ -225,14 +249,16 @@ module _ (d : Device) (l : IsLawful d) where
   -- a word written to Data
   word_written : (w : ℕ) → IsLawful (accessed (access.WriteWord w) d)
   word_written w = record {
-    registers = words_written-lawful d.file.device d.file.error d.file.control d.file.failed d.file.pending d.file.phase d.bus l.registers;
+    registers = words_written-lawful d.file.device d.file.error d.file.control d.file.failed d.file.pending
+        d.file.phase d.bus l.registers;
     within = write_word-within d.file.phase d.sectors l.within;
     block = write_word-block d.file.phase w d.block l.registers.goes_on l.block;
   }
 
 -- any access
 pub accessed-lawful : (a : Access) (d : Device) → IsLawful d → IsLawful (accessed a d)
-accessed-lawful (access.Read8 r) d l = with_line d l (after_read r d.file) d.bus (read_lawful r d.file d.bus (length d.block) d.sectors l)
+accessed-lawful (access.Read8 r) d l = with_line d l (after_read r d.file) d.bus
+    (read_lawful r d.file d.bus (length d.block) d.sectors l)
 accessed-lawful (access.Write8 r v) d l = written d l (is_of_bus r) r v
 accessed-lawful access.ReadWord d l = word_read d l
 accessed-lawful (access.WriteWord w) d l = word_written d l w

@@ -31,7 +31,8 @@ command_shown b = bit_or (bit_shown b.start START) (bit_shown b.inward INWARD)
 -- bits 3 to 7 are 0 (own)
 abbrev pub status_shown : Bus → ℕ
 status_shown b =
-    bit_or (bit_or (bit_shown b.active ACTIVE) (bit_shown b.error BUS_ERROR)) (bit_shown b.interrupt INTERRUPT)
+    bit_or (bit_or (bit_shown b.active ACTIVE) (bit_shown b.error BUS_ERROR))
+    (bit_shown b.interrupt INTERRUPT)
 
 -- what a read of a register of the bus master answers; it changes nothing
 abbrev pub bus_value : Reg → Bus → ℕ

@@ -97,7 +97,8 @@ after_read_word d = with_phase (phase_after_read d.file.phase) d
 -- after a write of Data (ATA/ATAPI-6, PIO data-out); there is no interrupt
 abbrev pub after_write_word : ℕ → Device → Device
 after_write_word w d =
-    with_phase (phase_after_write d.file.phase) (record d { block = block_after_write w d.file.phase d.block })
+    with_phase (phase_after_write d.file.phase)
+    (record d { block = block_after_write w d.file.phase d.block })
 
 -- what a read of the table pointer answers (Bus Master IDE 1.0, descriptor table pointer register)
 abbrev pub pointer_read : Device → ℕ

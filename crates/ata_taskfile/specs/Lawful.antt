@@ -80,7 +80,8 @@ some_left_in (Ready taken done left) = left
 
 -- a count that a kind of command has: 1 or more sectors of a range, else the one count without a range
 abbrev pub has_count : Kind → ℕ → Bool
-has_count kind count = if has_range kind then not (count == 0) else count == count_without_range kind
+has_count kind count =
+    if has_range kind then not (count == 0) else count == count_without_range kind
 
 -- an order in hand is one that the table of commands can give
 abbrev pub is_possible : Taken → Bool
@@ -128,23 +129,26 @@ pub record IsLawfulPhase (phase : Phase) : Type 0 where
   pub most_left : left_in phase ≤ 256
 
 -- registers and bus master as every device has them, by what the rules look at (own)
-pub record AreLawful (control device error : ℕ) (failed pending : Bool) (phase : Phase) (b : Bus) : Type 0 where
+pub record AreLawful (control device error : ℕ) (failed pending : Bool) (phase : Phase)
+    (b : Bus) : Type 0 where
+  -- Device Control has no bits but HOB, SRST and nIEN (86h), and SRST in reset alone
   pub kept : bit_and control 134 ≡ control
   pub held : has_bit SRST control ≡ true → is_in_reset phase ≡ true
+  -- a command in hand has no Error and isn't failed
   pub no_error : has_order phase ≡ true → error ≡ 0
   pub not_failed : has_order phase ≡ true → failed ≡ false
+  -- one that was just taken has DEV at 0 and no interrupt
   pub selected : is_fresh phase ≡ true → has_bit DEV device ≡ false
   pub acknowledged : is_fresh phase ≡ true → pending ≡ false
   pub goes_on : IsLawfulPhase phase
   pub pointer : b.pointer % 4 ≡ 0
+  -- only start lets active be 1, and only active a walk run
   pub active : b.active ≡ true → b.start ≡ true
   pub walking : is_some b.walk ≡ true → b.active ≡ true
+  -- a walk has moved no more than its command has done
   pub moved : moved_by b.walk ≤ movable_in phase
 
--- a task file and a bus master as every device has them: Device Control has no bits but HOB, SRST and nIEN (86h),
--- and SRST in reset alone; a command in hand has no Error and isn't failed, and one that was just taken has DEV at 0
--- and no interrupt; the pointer is a multiple of 4; only start lets active be 1, and only active a walk run; a walk
--- has moved no more than its command has done
+-- a task file and a bus master as every device has them
 abbrev pub HasLawfulRegisters : TaskFile → Bus → Type 0
 HasLawfulRegisters f b = AreLawful f.control f.device f.error f.failed f.pending f.phase b
 
@@ -165,7 +169,8 @@ end_of (Ready taken done left) = end_in taken
 abbrev pub words_in : Phase → ℕ → ℕ
 words_in Reset words = words
 words_in Idle words = words
-words_in (Busy (Good order) done) words = if takes_words order.form && not (done == 0) then 256 else words
+words_in (Busy (Good order) done) words =
+    if takes_words order.form && not (done == 0) then 256 else words
 words_in (Busy (Bad reason) done) words = words
 words_in (Ready (Good order) done left) words = if takes_words order.form then 256 - left else 256
 words_in (Ready (Bad reason) done left) words = words

@@ -94,14 +94,16 @@ has_range Features = false
 -- (ATA/ATAPI-6, 28-bit addressing)
 abbrev pub first_28 : Inputs → ℕ
 first_28 i =
-    slice_index i.low 0 + 256 * slice_index i.mid 0 + 65536 * slice_index i.high 0 + 16777216 * (i.device % 16)
+    slice_index i.low 0 + 256 * slice_index i.mid 0 + 65536 * slice_index i.high 0
+    + 16777216 * (i.device % 16)
 
 -- the first sector in 48 bits: the current bytes, and above them the previous ones
 -- (ATA/ATAPI-6, 48-bit Address feature set)
 abbrev pub first_48 : Inputs → ℕ
 first_48 i =
     slice_index i.low 0 + 256 * slice_index i.mid 0 + 65536 * slice_index i.high 0
-    + 16777216 * slice_index i.low 1 + 4294967296 * slice_index i.mid 1 + 1099511627776 * slice_index i.high 1
+    + 16777216 * slice_index i.low 1 + 4294967296 * slice_index i.mid 1
+    + 1099511627776 * slice_index i.high 1
 
 -- a count as it is written, where 0 means this number, which the register can't say
 abbrev pub count_or : ℕ → ℕ → ℕ
@@ -140,7 +142,8 @@ count_without_range Features = 0
 
 -- the count of a row's request
 abbrev pub count_in : Row → Inputs → ℕ
-count_in row i = if has_range row.kind then count_named row.extended i else count_without_range row.kind
+count_in row i =
+    if has_range row.kind then count_named row.extended i else count_without_range row.kind
 
 -- what a row asks for over the registers
 abbrev pub request_of : Row → Inputs → Request
@@ -172,7 +175,8 @@ is_accepted Features extended i = has_feature i
 
 -- a range that the drive holds, else the refusal (ATA/ATAPI-6, IDNF bit)
 abbrev pub within : ℕ → Request → Result Request Refused
-within sectors request = if nat_lt sectors (request.first + request.count) then Err NotFound else Ok request
+within sectors request =
+    if nat_lt sectors (request.first + request.count) then Err NotFound else Ok request
 
 -- the order of a row: its refusals in their order, else its request (ATA/ATAPI-6, ABRT bit)
 abbrev pub order_in : Option Row → Inputs → ℕ → Result Request Refused

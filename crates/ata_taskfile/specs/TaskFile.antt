@@ -98,16 +98,16 @@ is_at_work Idle = false
 is_at_work (Ready taken done left) = false
 
 -- no Command write is taken in these phases (own: none in Ready)
-abbrev pub has_command : Phase → Bool
-has_command Reset = true
-has_command (Busy taken done) = true
-has_command (Ready taken done left) = true
-has_command Idle = false
+abbrev pub takes_no_command : Phase → Bool
+takes_no_command Reset = true
+takes_no_command (Busy taken done) = true
+takes_no_command (Ready taken done left) = true
+takes_no_command Idle = false
 
 -- a write that has no effect, as one of Command for the device that isn't there (own)
 abbrev pub is_ignored : Reg → TaskFile → Bool
 is_ignored reg.Alternate f = false
-is_ignored reg.Status f = has_command f.phase || selects_absent f
+is_ignored reg.Status f = takes_no_command f.phase || selects_absent f
 is_ignored reg.Error f = is_at_work f.phase
 is_ignored reg.Count f = is_at_work f.phase
 is_ignored reg.Low f = is_at_work f.phase
@@ -148,7 +148,8 @@ stored reg.Low v f = record (hob_cleared f) { low = moved_in v f.low }
 stored reg.Mid v f = record (hob_cleared f) { mid = moved_in v f.mid }
 stored reg.High v f = record (hob_cleared f) { high = moved_in v f.high }
 stored reg.Device v f = record (hob_cleared f) { device = v }
-stored reg.Status v f = record (hob_cleared f) { command = v; error = 0; failed = false; pending = false }
+stored reg.Status v f =
+    record (hob_cleared f) { command = v; error = 0; failed = false; pending = false }
 stored reg.Alternate v f = controlled v f
 stored reg.BusCommand v f = f
 stored reg.BusStatus v f = f

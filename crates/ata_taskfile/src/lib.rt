@@ -1,11 +1,11 @@
 //! One ATA device as its host sees it: the register file, the phase of the command in hand, and the trait
 //! `Ports`, by which every other crate reaches a device.
 //!
-//! Start with the enums below, then `registers` for the bits, `task_file` and `bus_master` for the calls, `transfer` for
-//! the words of Data, and `ports` for the trait. `specs/TaskFile.antt`, `Bus.antt` and `Data.antt` say what each call
-//! does to the registers and the phase, `specs/Device.antt` and `Access.antt` what an access does to the whole device,
-//! `specs/Order.antt` which order a command byte gives, and `specs/Lawful.antt` what every device keeps. `docs/drive.md`
-//! has the same rules as tables.
+//! Start with the enums below, then `registers` for the bits, `task_file` and `bus_master` for the calls, `transfer`
+//! for the words of Data, and `ports` for the trait. `specs/TaskFile.antt`, `Bus.antt` and `Data.antt` say what each
+//! call does to the registers and the phase, `specs/Device.antt` and `Access.antt` what an access does to the whole
+//! device, `specs/Order.antt` which order a command byte gives, and `specs/Lawful.antt` what every device keeps.
+//! `docs/drive.md` has the same rules as tables.
 
 #![tactic(auto)]
 
@@ -125,8 +125,8 @@ pub enum Wrote {
     ResetBegun,
 }
 
-/// One access of a guest to the device (ATA/ATAPI-6, I/O registers; Bus Master IDE 1.0, registers). The numbers are what
-/// is written.
+/// One access of a guest to the device (ATA/ATAPI-6, I/O registers; Bus Master IDE 1.0, registers). The numbers are
+/// what is written.
 #[derive(Clone, Copy, Debug, PartialEq, Eq)]
 pub enum Access {
     Read8(Reg),

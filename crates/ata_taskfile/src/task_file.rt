@@ -1,7 +1,7 @@
 //! The task file: a device's registers with the phase of its command. `specs/TaskFile.antt` says what each call means.
 
 ghost use Rattle.std.specs.Prelude.{◌≡◌, false};
-ghost use Rattle.ata_taskfile.specs.TaskFile.{line, value, after_read, after_write, wrote, power_on, is_of_bus, reset_ended, refused, announced, ended_failed, addressed, shows_previous, holds_reset, masks_line, selects_absent, status, shown, is_at_work, is_ignored, stored_as, controlled, in_reset, control_wrote, has_command};
+ghost use Rattle.ata_taskfile.specs.TaskFile.{line, value, after_read, after_write, wrote, power_on, is_of_bus, reset_ended, refused, announced, ended_failed, addressed, shows_previous, holds_reset, masks_line, selects_absent, status, shown, is_at_work, is_ignored, stored_as, controlled, in_reset, control_wrote, takes_no_command};
 
 use crate::registers::{ABRT, BSY, DEV, DRDY, DRQ, DSC, ERR, HOB, IDNF, NIEN, SRST, has_bit};
 use crate::{Phase, Refused, Reg, Wrote};
@@ -244,7 +244,7 @@ impl TaskFile {
     {
         match reg {
             Reg::Alternate => false,
-            Reg::Status => self.has_command() || self.selects_absent(),
+            Reg::Status => self.takes_no_command() || self.selects_absent(),
             Reg::BusCommand | Reg::BusStatus => true,
             _ => self.is_at_work(),
         }
@@ -259,8 +259,8 @@ impl TaskFile {
         }
     }
 
-    fn has_command(&self) -> bool
-        ensures { result ≡ has_command self.now.phase }
+    fn takes_no_command(&self) -> bool
+        ensures { result ≡ takes_no_command self.now.phase }
     {
         match self.phase {
             Phase::Idle => false,

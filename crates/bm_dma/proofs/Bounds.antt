@@ -19,11 +19,14 @@ meant_few (suc n) few = omega arith
 
 count_few : (at : ℕ) (memory : List ℕ) → AreBytes memory → (descriptor_in (drop at memory)).count ≤ 65536
 count_few at memory bytes =
-    let low : get_or (drop 4 (drop at memory)) 0 0 < 256 = rw (get_or-drop 4 (drop at memory) 0 0, get_or-drop at memory 4 0) (bytes (at + 4)) in
-    let high : get_or (drop 4 (drop at memory)) 1 0 < 256 = rw (get_or-drop 4 (drop at memory) 1 0, get_or-drop at memory 5 0) (bytes (at + 5)) in
+    let low : get_or (drop 4 (drop at memory)) 0 0 < 256 =
+    rw (get_or-drop 4 (drop at memory) 0 0, get_or-drop at memory 4 0) (bytes (at + 4)) in
+    let high : get_or (drop 4 (drop at memory)) 1 0 < 256 =
+    rw (get_or-drop 4 (drop at memory) 1 0, get_or-drop at memory 5 0) (bytes (at + 5)) in
     meant_few (little_number 2 (drop 4 (drop at memory))) (omega arith)
 
-length_with : (d : Descriptor) (size k : ℕ) (run : Run) (good last : Bool) → is_good d size ≡ good → d.is_last ≡ last → d.count ≤ 65536
+length_with : (d : Descriptor) (size k : ℕ) (run : Run) (good last : Bool) → is_good d size ≡ good
+    → d.is_last ≡ last → d.count ≤ 65536
     → length run.places ≤ k → length (run_with d size run).places ≤ 65536 + k
 length_with d size k run false last bad is small few = rw bad (omega arith)
 length_with d size k run true true good is small few = rw (good, is) (omega (arith, length_both d []))
@@ -34,7 +37,8 @@ length_run : (n at : ℕ) (memory : List ℕ) → AreBytes memory → length (ru
 length_run zero at memory bytes = omega arith
 length_run (suc n) at memory bytes =
     let rest = length_with (descriptor_in (drop at memory)) (length memory) (65536 * n) (run_from n (at + 8) memory)
-    (is_good (descriptor_in (drop at memory)) (length memory)) (descriptor_in (drop at memory)).is_last refl refl (count_few at memory bytes)
+    (is_good (descriptor_in (drop at memory)) (length memory)) (descriptor_in (drop at memory)).is_last refl refl
+    (count_few at memory bytes)
     (length_run n (at + 8) memory bytes) in
     omega arith
 

@@ -22,7 +22,8 @@ take_range (suc k) a (suc n) (suc m) e = ap (λ xs. a ∷ xs) (take_range k (a +
 
 -- those behind the first
 drop_range : (k a n b m : ℕ) → b ≡ a + k → m ≡ n - k → drop k (range_with_len a n) ≡ range_with_len b m
-drop_range zero a n b m place count = let same : b ≡ a = omega arith in let all : m ≡ n = omega arith in rw (same, all) refl
+drop_range zero a n b m place count = let same : b ≡ a = omega arith in let all : m ≡ n = omega arith in
+    rw (same, all) refl
 drop_range (suc k) a zero b m place count = let none : m ≡ 0 = omega arith in rw none refl
 drop_range (suc k) a (suc n) b m place count = drop_range k (a + 1) n b m (omega arith) (omega arith)
 
@@ -31,7 +32,8 @@ moved : (a n b : ℕ) → (b ≡ a) ⊎ (n ≡ 0) → range_with_len b n ≡ ran
 moved a n b (inl same) = rw same refl
 moved a n b (inr none) = rw none refl
 
-near : (base start count first n : ℕ) → first ≡ base + min start count → (count ≤ start → n ≡ 0) → (first ≡ base + start) ⊎ (n ≡ 0)
+near : (base start count first n : ℕ) → first ≡ base + min start count → (count ≤ start → n ≡ 0)
+    → (first ≡ base + start) ⊎ (n ≡ 0)
 near base start count first n f none = elim (cases_lt start count) [
   | inl inside ↦ inl (omega arith)
   | inr past ↦ inr (none past)
@@ -45,7 +47,8 @@ piece_is d start end first behind found e f b =
     let rest = drop_range start d.base d.count (d.base + start) (d.count - start) refl refl in
     let part = take_range (512 - length found) (d.base + start) (d.count - start) (behind - first) (omega arith) in
     ap (λ xs. found ++ xs) (moved (d.base + start) (behind - first) first
-    (near d.base start d.count first (behind - first) f (λ past. omega arith)) ∙ sym (ap (take (512 - length found)) rest ∙ part))
+    (near d.base start d.count first (behind - first) f (λ past. omega arith))
+    ∙ sym (ap (take (512 - length found)) rest ∙ part))
 
 -- the first of two lists
 pub take_both : (n m : ℕ) (xs ys : List ℕ) → m ≡ n - length xs → take n (xs ++ ys) ≡ take n xs ++ take m ys

@@ -24,14 +24,18 @@ inside_one d size good =
 inside_with : (d : Descriptor) (size : ℕ) (run : Run) (good last : Bool) → is_good d size ≡ good → d.is_last ≡ last
     → All (λ place. place < size) run.places → All (λ place. place < size) (run_with d size run).places
 inside_with d size run false last bad is rest = rw bad (All-nil (λ place. place < size))
-inside_with d size run true true good is rest = rw (good, is) (All-append (λ place. place < size) (places_of d) [] (inside_one d size good) (All-nil (λ place. place < size)))
-inside_with d size run true false good is rest = rw (good, is) (All-append (λ place. place < size) (places_of d) run.places (inside_one d size good) rest)
+inside_with d size run true true good is rest =
+    rw (good, is) (All-append (λ place. place < size) (places_of d) [] (inside_one d size good)
+    (All-nil (λ place. place < size)))
+inside_with d size run true false good is rest =
+    rw (good, is) (All-append (λ place. place < size) (places_of d) run.places (inside_one d size good) rest)
 
 inside_from : (n at : ℕ) (memory : List ℕ) → All (λ place. place < length memory) (run_from n at memory).places
 inside_from zero at memory = All-nil (λ place. place < length memory)
 inside_from (suc n) at memory =
     inside_with (descriptor_in (drop at memory)) (length memory) (run_from n (at + 8) memory)
-    (is_good (descriptor_in (drop at memory)) (length memory)) (descriptor_in (drop at memory)).is_last refl refl (inside_from n (at + 8) memory)
+    (is_good (descriptor_in (drop at memory)) (length memory)) (descriptor_in (drop at memory)).is_last refl refl
+    (inside_from n (at + 8) memory)
 
 -- every place of a table is in memory
 pub inside_run : (pointer : ℕ) (memory : List ℕ) → All (λ place. place < length memory) (run_of pointer memory).places
@@ -39,26 +43,32 @@ inside_run pointer memory = inside_from ((length memory - pointer) / 8) pointer 
 
 -- a run is its first descriptor with the run behind it
 pub run_first : (pointer : ℕ) (memory : List ℕ) → pointer + 8 ≤ length memory
-    → run_of pointer memory ≡ run_with (descriptor_in (drop pointer memory)) (length memory) (run_of (pointer + 8) memory)
+    → run_of pointer memory ≡ run_with (descriptor_in (drop pointer memory)) (length memory)
+    (run_of (pointer + 8) memory)
 run_first pointer memory inside =
     let one_more : (length memory - pointer) / 8 ≡ suc ((length memory - (pointer + 8)) / 8) = omega arith in
     ap (λ n. run_from n pointer memory) one_more
 
 -- behind the end of memory there is none
 pub run_past : (pointer : ℕ) (memory : List ℕ) → length memory < pointer + 8 → run_of pointer memory ≡ bad_run
-run_past pointer memory past = let none : (length memory - pointer) / 8 ≡ 0 = omega arith in ap (λ n. run_from n pointer memory) none
+run_past pointer memory past = let none : (length memory - pointer) / 8 ≡ 0 = omega arith in
+    ap (λ n. run_from n pointer memory) none
 
-short_count : (full last ended : Bool) (k n : ℕ) → (full ≡ false → k < 512) → moved_as (found_as full last ended) k ≡ Short n → n < 512
+short_count : (full last ended : Bool) (k n : ℕ) → (full ≡ false → k < 512)
+    → moved_as (found_as full last ended) k ≡ Short n → n < 512
 short_count true last ended k n few e = cc
 short_count false last true k n few e = let below = few refl in let same : k ≡ n = cc in omega arith
 short_count false last false k n few e = cc
 
-short_in : (walk : Option ℕ) (pointer : ℕ) (memory : List ℕ) (n : ℕ) → outcome_in walk pointer memory ≡ Short n → n < 512
+short_in : (walk : Option ℕ) (pointer : ℕ) (memory : List ℕ) (n : ℕ) → outcome_in walk pointer memory ≡ Short n
+    → n < 512
 short_in None pointer memory n e = cc
 short_in (Some moved) pointer memory n e =
     let run = run_of pointer memory in
-    short_count (length (sector_places moved run) == 512) (is_tables_end moved run) run.ended (length (sector_places moved run)) n
-    (λ part. let not_all = eqb-false (length (sector_places moved run)) 512 part in omega (arith, length-take 512 (drop (512 * moved) run.places))) e
+    short_count (length (sector_places moved run) == 512) (is_tables_end moved run) run.ended
+    (length (sector_places moved run)) n
+    (λ part. let not_all = eqb-false (length (sector_places moved run)) 512 part in
+    omega (arith, length-take 512 (drop (512 * moved) run.places))) e
 
 -- a short move has fewer bytes than a sector
 pub short_below : (bus : Bus) (memory : List ℕ) (n : ℕ) → outcome bus memory ≡ Short n → n < 512

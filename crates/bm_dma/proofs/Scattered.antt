@@ -10,8 +10,10 @@ length-scattered (place ∷ places) (byte ∷ bytes) memory =
     length-scattered places bytes (set memory place byte) ∙ length-set memory place byte
 
 -- a byte whose place isn't named stays
-pub elsewhere : (places bytes memory : List ℕ) (place : ℕ) → AreElsewhere place places → byte_at (scattered places bytes memory) place ≡ byte_at memory place
+pub elsewhere : (places bytes memory : List ℕ) (place : ℕ) → AreElsewhere place places
+    → byte_at (scattered places bytes memory) place ≡ byte_at memory place
 elsewhere [] bytes memory place apart = refl
 elsewhere (first ∷ places) [] memory place apart = refl
 elsewhere (first ∷ places) (byte ∷ bytes) memory place apart =
-    elsewhere places bytes (set memory first byte) place (λ k d below. apart (suc k) d (omega arith)) ∙ get_or-set_other memory first place byte 255 (λ e. apart 0 0 (omega arith) (sym e))
+    elsewhere places bytes (set memory first byte) place (λ k d below. apart (suc k) d (omega arith))
+    ∙ get_or-set_other memory first place byte 255 (λ e. apart 0 0 (omega arith) (sym e))

@@ -9,7 +9,8 @@ byte_at memory place = slice_index_or memory place 255
 abbrev pub scattered : List ℕ → List ℕ → List ℕ → List ℕ
 scattered [] bytes memory = memory
 scattered (place ∷ places) [] memory = memory
-scattered (place ∷ places) (byte ∷ bytes) memory = scattered places bytes (slice_set memory place byte)
+scattered (place ∷ places) (byte ∷ bytes) memory =
+    scattered places bytes (slice_set memory place byte)
 
 -- no byte of these has this place
 abbrev pub AreElsewhere : ℕ → List ℕ → Type 0

@@ -27,7 +27,8 @@ moved_as Bad places = Outside
 abbrev pub outcome_in : Option ℕ → ℕ → List ℕ → Moved
 outcome_in None pointer memory = Waiting
 outcome_in (Some moved) pointer memory =
-    moved_as (found_in moved (run_of pointer memory)) (length (sector_places moved (run_of pointer memory)))
+    moved_as (found_in moved (run_of pointer memory))
+    (length (sector_places moved (run_of pointer memory)))
 
 -- the answer to moving the bus master's next sector
 abbrev pub outcome : Bus → List ℕ → Moved

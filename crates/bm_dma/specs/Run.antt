@@ -50,4 +50,5 @@ found_as false last false = Bad
 
 -- what is found of that sector
 abbrev pub found_in : ℕ → Run → Found
-found_in moved run = found_as (length (sector_places moved run) == 512) (is_tables_end moved run) run.ended
+found_in moved run =
+    found_as (length (sector_places moved run) == 512) (is_tables_end moved run) run.ended

@@ -11,7 +11,8 @@ ghost use Rattle.bm_dma.specs.Move.{outcome};
 pub fn runs_begin_with_a_descriptor()
     ensures first { (pointer : ℕ) (memory : List ℕ) → pointer + 8 ≤ length memory →
         run_of pointer memory
-        ≡ run_with (descriptor_in (drop pointer memory)) (length memory) (run_of (pointer + 8) memory) }
+        ≡ run_with (descriptor_in (drop pointer memory)) (length memory)
+        (run_of (pointer + 8) memory) }
     ensures past { (pointer : ℕ) (memory : List ℕ) → length memory < pointer + 8 →
         run_of pointer memory ≡ bad_run }
 {}

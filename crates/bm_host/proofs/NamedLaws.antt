@@ -13,7 +13,8 @@ named_onto-push all (f ∷ files) file = named_onto-push (with_value all f.0 f.1
 
 -- the new file stands in place of what its role had, and every other role keeps its own
 pub files_named-push : (files : List (Role × Vec ℕ)) (role : Role) (bytes : Vec ℕ) (r : Role) →
-    value_of (files_named (files ++ (role, bytes) ∷ [])) r ≡ value_of (with_value (files_named files) role bytes.items) r
+    value_of (files_named (files ++ (role, bytes) ∷ [])) r ≡ value_of
+    (with_value (files_named files) role bytes.items) r
 files_named-push files role bytes r = ap (λ all. value_of all r) (named_onto-push all_empty files (role, bytes))
 
 -- so also where vectors were set

@@ -5,7 +5,8 @@ use Rattle.bm_host.specs.declared.Role.{Role}
 use Rattle.bm_host.specs.Outside.{Outside, Reads, Writes, Counted, SameBytes, SameElsewhere, IfTold, Becomes, Gives, AppendsPrefix, begin_side, begun, bytes_at, looked_at, written_at}
 
 -- `begin` of a role (own)
-pub record Begins {T E : Type 0} (role : Role) (old new : Outside) (result : Result T E) : Type 0 where
+pub record Begins {T E : Type 0} (role : Role) (old new : Outside)
+    (result : Result T E) : Type 0 where
   pub cause : Counted (begin_side role) role old new result
   pub elsewhere : SameElsewhere role old new
   pub looked : new.looked ≡ old.looked
@@ -14,7 +15,8 @@ pub record Begins {T E : Type 0} (role : Role) (old new : Outside) (result : Res
   pub unknown : Becomes (λ _ _. ⊤) (old.told role) (new.told role)
 
 -- `length` of a role (own)
-pub record TellsLength {E : Type 0} (role : Role) (old new : Outside) (result : Result ℕ E) : Type 0 where
+pub record TellsLength {E : Type 0} (role : Role) (old new : Outside)
+    (result : Result ℕ E) : Type 0 where
   pub cause : Counted Reads role old new result
   pub bytes : SameBytes old new
   pub looked : new.looked ≡ old.looked

@@ -47,7 +47,8 @@ pub record Rose (old new : ℕ) : Type 0 where
 
 -- no count of faults rose
 abbrev pub NoCountRose : Outside → Outside → Type 0
-NoCountRose old new = (side : Side) (role : Role) → ¬ Rose (faults side old role) (faults side new role)
+NoCountRose old new =
+    (side : Side) (role : Role) → ¬ Rose (faults side old role) (faults side new role)
 
 -- no count of faults changed
 pub record SameCounts (old new : Outside) : Type 0 where

@@ -6,7 +6,8 @@ use Rattle.bm_host.specs.Outside.{Outside, Counted, Writes, Becomes, AppendsPref
 use Rattle.bmcast.specs.Status.{IsTold}
 
 -- a write to Console tells its text, or a prefix where it fails
-pub told_by : {T E : Type 0} (text : List ℕ) (old new : Outside) (result : Result T E) → Counted Writes Console old new result
+pub told_by : {T E : Type 0} (text : List ℕ) (old new : Outside) (result : Result T E)
+    → Counted Writes Console old new result
     → OnOk result (Becomes (λ before after. after ≡ before ++ text) (old.told Console) (new.told Console))
     → OnErr result (Becomes (AppendsPrefix text) (old.told Console) (new.told Console)) → IsTold text old new
 told_by text old new (Ok x) counted all part = inl all

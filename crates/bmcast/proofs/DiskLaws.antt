@@ -26,7 +26,8 @@ pub record WritesFront (old new : Outside) (before now : Physical) (waiting : Li
   pub counts : SameCounts old new
   pub files : KeepsFilesBut Out old new
   pub drive : now ≡ before
-  pub waits : (text : List ℕ) → Waits Out [] old text → Waits Out waiting new (text ++ concat (take sectors before.kept.durable))
+  pub waits : (text : List ℕ) → Waits Out [] old text
+      → Waits Out waiting new (text ++ concat (take sectors before.kept.durable))
 
 -- the bytes of one sector more
 concat-more : (list : List (List ℕ)) (i : ℕ) → i < length list
@@ -52,7 +53,8 @@ WritesFront-more old now new before mid after waiting more i below so counts fil
 }
 
 -- nothing waits any more, and Out was empty: it holds all sectors
-pub WritesFront-all : (old now new : Outside) (before mid : Physical) (waiting rest : List ℕ) (i : ℕ) → length before.kept.durable ≤ i
+pub WritesFront-all : (old now new : Outside) (before mid : Physical) (waiting rest : List ℕ) (i : ℕ)
+    → length before.kept.durable ≤ i
     → WritesFront old now before mid waiting i → rest ≡ [] → KeepsWaiting Out waiting rest now new
     → IfTold (old.told Out) (λ bytes. bytes ≡ []) → IfTold (new.told Out) (λ bytes. bytes ≡ concat before.kept.durable)
 WritesFront-all old now new before mid waiting rest i all so none waits empty =
@@ -62,7 +64,8 @@ WritesFront-all old now new before mid waiting rest i all so none waits empty =
     (Waits-all Out new rest text none (waits text (so.waits [] (Waits-none Out old [] refl empty))))
 
 -- a sector that was read stands behind those before it
-sector_read : (list : List (List ℕ)) (disk bytes : List ℕ) (s : ℕ) → s < length list → bytes ≡ take 512 (drop (s * 512) disk)
+sector_read : (list : List (List ℕ)) (disk bytes : List ℕ) (s : ℕ) → s < length list
+    → bytes ≡ take 512 (drop (s * 512) disk)
     → take s list ≡ sectors_in s disk → take (s + 1) (slice_set list s bytes) ≡ sectors_in (s + 1) disk
 sector_read list disk bytes s below read front =
     rw (read, sectors_in-more s disk, ← front) (take_more_set list s (take 512 (drop (s * 512) disk)) below)
@@ -73,4 +76,5 @@ pub sector_read_if_told : (told : Option (List ℕ)) (old new : List (List ℕ))
     → IfTold told (λ disk. bytes ≡ bytes_at (s * 512) 512 disk)
     → IfTold told (λ disk. take s old ≡ sectors_in s disk → take (s + 1) new ≡ sectors_in (s + 1) disk)
 sector_read_if_told None old new bytes s below set read = tt
-sector_read_if_told (Some disk) old new bytes s below set read = λ front. rw set (sector_read old disk bytes s below read front)
+sector_read_if_told (Some disk) old new bytes s below set read = λ front. rw set
+    (sector_read old disk bytes s below read front)

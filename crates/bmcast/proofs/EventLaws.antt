@@ -16,7 +16,8 @@ use Rattle.plain_drive.specs.Plain.{words_of}
 use Rattle.plain_run.specs.Event.{memory_read}
 
 -- what so many reads of Data still answer, and where they lead, after one of them
-pub words_left : (n i w : ℕ) (now next : Device) (got half more whole : List ℕ) → i < n → got ++ bytes_of (words_read (n - i) now) ≡ whole
+pub words_left : (n i w : ℕ) (now next : Device) (got half more whole : List ℕ) → i < n
+    → got ++ bytes_of (words_read (n - i) now) ≡ whole
     → w ≡ word_read now → next ≡ after_read_word now → half ≡ got ++ w % 256 ∷ [] → more ≡ half ++ w / 256 ∷ []
     → more ++ bytes_of (words_read (n - (i + 1)) next) ≡ whole
 unfolding words_read
@@ -32,7 +33,8 @@ after_words_left n i now next end below so_far step =
     rw step (rw left at so_far)
 
 -- at the end no read is left
-pub no_words_left : (n : ℕ) (now : Device) (got whole : List ℕ) → got ++ bytes_of (words_read (n - n) now) ≡ whole → got ≡ whole
+pub no_words_left : (n : ℕ) (now : Device) (got whole : List ℕ) → got ++ bytes_of (words_read (n - n) now) ≡ whole
+    → got ≡ whole
 unfolding words_read
 no_words_left n now got whole so_far = let none : n - n ≡ 0 = omega arith in sym (append-nil got) ∙ (rw none at so_far)
 
@@ -41,8 +43,10 @@ unfolding after_words
 no_step_left n now end so_far = let none : n - n ≡ 0 = omega arith in rw none at so_far
 
 -- the bytes of memory that are still to be read, after one of them
-pub bytes_left : (place n i byte : ℕ) (memory got more whole : List ℕ) → i < n → got ++ memory_read (place + i) (n - i) memory ≡ whole
-    → byte ≡ byte_at memory (place + i) → more ≡ got ++ byte ∷ [] → more ++ memory_read (place + (i + 1)) (n - (i + 1)) memory ≡ whole
+pub bytes_left : (place n i byte : ℕ) (memory got more whole : List ℕ) → i < n
+    → got ++ memory_read (place + i) (n - i) memory ≡ whole
+    → byte ≡ byte_at memory (place + i) → more ≡ got ++ byte ∷ [] → more ++ memory_read (place + (i + 1))
+    (n - (i + 1)) memory ≡ whole
 bytes_left place n i byte memory got more whole below so_far read one =
     let left : n - i ≡ suc (n - (i + 1)) = omega arith in
     let next : place + i + 1 ≡ place + (i + 1) = omega arith in
@@ -51,7 +55,8 @@ bytes_left place n i byte memory got more whole below so_far read one =
 -- where the words that are still to be written lead, after one of them
 pub words_to_write : (left : List ℕ) (k w : ℕ) (now next end : Device) → 2 ≤ length left → k ≡ length left - 2
     → w ≡ get_or left 0 0 + 256 * get_or left 1 0
-    → next ≡ after_write_word w now → after_written (words_of left) now ≡ end → after_written (words_of (take k (drop 2 left))) next ≡ end
+    → next ≡ after_write_word w now → after_written (words_of left) now ≡ end
+    → after_written (words_of (take k (drop 2 left))) next ≡ end
 unfolding after_written
 words_to_write [] k w now next end two rest is step so_far = absurd (omega arith)
 words_to_write (low ∷ []) k w now next end two rest is step so_far = absurd (omega arith)
@@ -60,7 +65,8 @@ words_to_write (low ∷ high ∷ bytes) k w now next end two rest is step so_far
     rw (all, step, is) so_far
 
 -- at the end no word is left, since a word has two bytes
-pub no_word_to_write : (left : List ℕ) (now end : Device) → length left < 2 → after_written (words_of left) now ≡ end → now ≡ end
+pub no_word_to_write : (left : List ℕ) (now end : Device) → length left < 2 → after_written (words_of left) now ≡ end
+    → now ≡ end
 unfolding after_written
 no_word_to_write [] now end few so_far = so_far
 no_word_to_write (low ∷ []) now end few so_far = so_far

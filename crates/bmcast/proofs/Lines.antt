@@ -15,7 +15,8 @@ use Rattle.bmcast.specs.Streams.{Fetches}
 use Rattle.bmcast.specs.Played.{IsNextLine}
 
 -- the next line says an event, which then was read
-pub read_next : (text line left : List ℕ) (e : Event) (events : List Event) → Says line e → IsNextLine text left events line
+pub read_next : (text line left : List ℕ) (e : Event) (events : List Event) → Says line e
+    → IsNextLine text left events line
     → HasRead text left (e ∷ events)
 read_next text line left e events says (old, (before, lines, inl goes), inl taken) =
     (before ++ line ++ 10 ∷ [], (before, line, lines, taken.0, says, refl), inl (goes ∙ rw taken.1 (simp append_assoc)))
@@ -26,7 +27,8 @@ read_next text line left e events says (old, (before, lines, inl goes), inr take
 )
 read_next text line left e events says (old, (before, lines, inr ended), inl taken) =
     absurd (some_bytes line left 10 (sym taken.1 ∙ ended.0))
-read_next text line left e events says (old, (before, lines, inr ended), inr taken) = absurd (taken.1 (sym taken.2 ∙ ended.0))
+read_next text line left e events says (old, (before, lines, inr ended), inr taken) =
+    absurd (taken.1 (sym taken.2 ∙ ended.0))
 
 -- a line's fault is how it fails, whatever its number
 pub line_fails : (line : List ℕ) (kind : LineFault) (number : ℕ) → HasFault line kind → LineFails kind number line
@@ -59,7 +61,8 @@ module _ (text : List ℕ) (events : List Event) (number : ℕ) (within : number
   }
 
   -- the line that is left first fails
-  due : (left : List ℕ) (kind : LineFault) → left ≢ [] → LineFails kind number (first_line left) → FailsWith kind number events left
+  due : (left : List ℕ) (kind : LineFault) → left ≢ [] → LineFails kind number (first_line left)
+      → FailsWith kind number events left
   due left fault.NoEnd some fails = absurd fails
   due left fault.Trailing some fails = absurd fails
   due left other some fails = record { goes_on = goes_on; some = some; fails = fails }
@@ -84,21 +87,27 @@ module _ (text : List ℕ) (events : List Event) (number : ℕ) (within : number
 -- what the next line is, of a schedule that is told
 module _ (told : Option (List ℕ)) (old new : List ℕ → List ℕ) (line : List ℕ) where
   pub told_line : IfTold told (λ text. Fetches fetched.Line line (old text) (new text))
-      → IfTold told (λ text. (events : List Event) → HasRead text (old text) events → IsNextLine text (new text) events line)
+      → IfTold told (λ text. (events : List Event) → HasRead text (old text) events
+      → IsNextLine text (new text) events line)
   told_line taken = IfTold-weaker told _ _ (λ text one events read. (old text, read, inl one)) taken
 
   pub told_last : IfTold told (λ text. Fetches fetched.LastLine line (old text) (new text))
-      → IfTold told (λ text. (events : List Event) → HasRead text (old text) events → IsNextLine text (new text) events line)
+      → IfTold told (λ text. (events : List Event) → HasRead text (old text) events
+      → IsNextLine text (new text) events line)
   told_last taken = IfTold-weaker told _ _ (λ text one events read. (old text, read, inr one)) taken
 
-  pub told_none : (number : ℕ) → number ≤ LAST_LINE → IfTold told (λ text. Fetches fetched.Nothing line (old text) (new text))
+  pub told_none : (number : ℕ) → number ≤ LAST_LINE
+      → IfTold told (λ text. Fetches fetched.Nothing line (old text) (new text))
       → IfTold told (λ text. (events : List Event) → HasNoEnd events → length events + 1 ≡ number
       → HasRead text (old text) events → FailsAt text events number fault.NoEnd)
   told_none number within taken = IfTold-weaker told _ _
-      (λ text none events unended next read. fails_none text events number within unended next (old text) read none.0) taken
+      (λ text none events unended next read. fails_none text events number within unended next (old text) read none.0)
+      taken
 
-  pub told_long : (number : ℕ) → number ≤ LAST_LINE → IfTold told (λ text. Fetches fetched.TooLong line (old text) (new text))
+  pub told_long : (number : ℕ) → number ≤ LAST_LINE
+      → IfTold told (λ text. Fetches fetched.TooLong line (old text) (new text))
       → IfTold told (λ text. (events : List Event) → HasNoEnd events → length events + 1 ≡ number
       → HasRead text (old text) events → FailsAt text events number fault.LongLine)
   told_long number within taken = IfTold-weaker told _ _
-      (λ text long events unended next read. fails_long text events number within unended next (old text) line (new text) read long) taken
+      (λ text long events unended next read. fails_long text events number within unended next (old text) line
+      (new text) read long) taken

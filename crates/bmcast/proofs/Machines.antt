@@ -18,23 +18,28 @@ abbrev kept_behind : Behind MemoryStore → Kept
 kept_behind b = record { durable = list_told (sectors_of b.store).told; cache = b.cache }
 
 -- the drive has another device, and nothing else changed
-pub moved : (old new : Machine) (d : Device) → device new ≡ d → (physical new).kept ≡ (physical old).kept → new.memory ≡ old.memory
+pub moved : (old new : Machine) (d : Device) → device new ≡ d → (physical new).kept ≡ (physical old).kept
+    → new.memory ≡ old.memory
     → physical new ≡ with_device d (physical old)
 moved old new d is kept memory = ap (λ k. keeping k (plain (device new) new.memory)) kept
     ∙ ap (λ e. keeping (physical old).kept (plain e new.memory)) is
     ∙ ap (λ m. keeping (physical old).kept (plain d m)) memory
 
-pub reached : (old new : Machine) (d : Device) → device new ≡ d → behind new.drive ≡ behind old.drive → new.memory ≡ old.memory
+pub reached : (old new : Machine) (d : Device) → device new ≡ d → behind new.drive ≡ behind old.drive
+    → new.memory ≡ old.memory
     → physical new ≡ with_device d (physical old)
 reached old new d is rest memory = moved old new d is (ap kept_behind rest) memory
 
 -- what such a machine's guest sees
-pub device_after : (p new : Physical) (d : Device) → new ≡ with_device d p → d.cells ≡ cells_of p.kept → (seen new).device ≡ d
-device_after p new d is cells = ap (λ (q : Physical). (seen q).device) is ∙ ap (λ cs. record d { cells = cs }) (sym cells)
+pub device_after : (p new : Physical) (d : Device) → new ≡ with_device d p → d.cells ≡ cells_of p.kept
+    → (seen new).device ≡ d
+device_after p new d is cells = ap (λ (q : Physical). (seen q).device) is ∙ ap (λ cs. record d { cells = cs })
+    (sym cells)
 
 -- no byte of memory has a place that no address names
 pub outside : (memory : List ℕ) (place : ℕ) → length memory ≤ 16777216 → 2 ^ 32 ≤ place → byte_at memory place ≡ 255
 outside memory place few beyond = get_or_past memory place 255 (omega arith)
 
-pub outside_set : (memory : List ℕ) (place v : ℕ) → length memory ≤ 16777216 → 2 ^ 32 ≤ place → slice_set memory place v ≡ memory
+pub outside_set : (memory : List ℕ) (place v : ℕ) → length memory ≤ 16777216 → 2 ^ 32 ≤ place
+    → slice_set memory place v ≡ memory
 outside_set memory place v few beyond = set_past memory place v (omega arith)

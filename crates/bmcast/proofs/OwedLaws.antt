@@ -24,7 +24,8 @@ use Rattle.bmcast.specs.declared.Status.{Status}
 use Rattle.bmcast.specs.declared.Status.TheVariants as status
 
 -- a fact of what is told, and one of a role that is told
-both_told : {R : Type 0} (o : Option (List ℕ)) (P Q : List ℕ → Type 0) → ((x : List ℕ) → P x → Q x → R) → IfTold o P → IsSomeAnd o Q → R
+both_told : {R : Type 0} (o : Option (List ℕ)) (P Q : List ℕ → Type 0) → ((x : List ℕ) → P x → Q x → R)
+    → IfTold o P → IsSomeAnd o Q → R
 both_told None P Q joined p q = absurd q
 both_told (Some x) P Q joined p q = joined x p q
 
@@ -33,25 +34,32 @@ both_lengths : {R : Type 0} (words : List (List ℕ)) (o : Outside) (P Q : ℕ �
     → ((block image disk : ℕ) → P block image disk → Q block image disk → R) → Chooses words o P → Offers words o Q → R
 both_lengths words o P Q joined chosen offered =
     both_told (o.told Image) _ _
-    (λ image p q. both_told (o.told Disk) _ _ (λ disk p q. joined offered.choice.sizes.block (length image) (length disk) p q) p q)
+    (λ image p q. both_told (o.told Disk) _ _ (λ disk p q. joined offered.choice.sizes.block (length image)
+    (length disk) p q) p q)
     (subst (λ (choice : Choice). IfLengths o (P choice.sizes.block))
     (says_once words chosen.choice offered.choice chosen.says offered.says) chosen.holds)
     offered.holds
 
 -- lengths that are refused for a reason aren't suitable
-refused_suitable : (reason : Why) (refusal : Option Unsuitable) → option_map why_of refusal ≡ Some reason → refusal ≡ None → ⊥
+refused_suitable : (reason : Why) (refusal : Option Unsuitable) → option_map why_of refusal ≡ Some reason
+    → refusal ≡ None → ⊥
 refused_suitable reason None refused none = none-some reason refused
 refused_suitable reason (Some why) refused none = none-some why (sym none)
 
 -- lengths are refused for one reason
-one_reason : (a b : Why) (block image disk : ℕ) → IsUnsuitable a block image disk → IsUnsuitable b block image disk → a ≡ b
+one_reason : (a b : Why) (block image disk : ℕ) → IsUnsuitable a block image disk → IsUnsuitable b block image disk
+    → a ≡ b
 one_reason a b block image disk is other = same_Some a b (sym is ∙ other)
 
-unsuitable_can_run : (reason : Why) (block image disk : ℕ) → IsUnsuitable reason block image disk → CanRun block image disk → ⊥
-unsuitable_can_run reason block image disk refused can = refused_suitable reason (refusal_of image disk block) refused can.suitable
+unsuitable_can_run : (reason : Why) (block image disk : ℕ) → IsUnsuitable reason block image disk
+    → CanRun block image disk → ⊥
+unsuitable_can_run reason block image disk refused can = refused_suitable reason (refusal_of image disk block)
+    refused can.suitable
 
-unsuitable_not_yet : (reason : Why) (block image disk : ℕ) → IsUnsuitable reason block image disk → IsNotYet block image disk → ⊥
-unsuitable_not_yet reason block image disk refused later = refused_suitable reason (refusal_of image disk block) refused later.suitable
+unsuitable_not_yet : (reason : Why) (block image disk : ℕ) → IsUnsuitable reason block image disk
+    → IsNotYet block image disk → ⊥
+unsuitable_not_yet reason block image disk refused later = refused_suitable reason
+    (refusal_of image disk block) refused later.suitable
 
 not_yet_can_run : (block image disk : ℕ) → IsNotYet block image disk → CanRun block image disk → ⊥
 not_yet_can_run block image disk later can = let filled = later.filled in let empty = can.empty in omega arith
@@ -67,14 +75,18 @@ usage_owed words old status.Done none is = absurd (none is.0.choice is.0.says)
 usage_owed words old never none is = absurd is
 
 -- the answer is that the lengths aren't suitable
-unsuitable_owed : (words : List (List ℕ)) (old : Outside) (why : Why) (owed : Status) → HasItsReason (status.Unsuitable why) words old
+unsuitable_owed : (words : List (List ℕ)) (old : Outside) (why : Why) (owed : Status)
+    → HasItsReason (status.Unsuitable why) words old
     → IsOwed owed words old → status.Unsuitable why ≡ owed
 unsuitable_owed words old why status.Usage reason is = absurd (is reason.choice reason.says)
 unsuitable_owed words old why (status.Unsuitable other) reason is =
     ap (λ w. status.Unsuitable w) (both_lengths words old _ _ (one_reason why other) reason is)
-unsuitable_owed words old why status.NotYet reason is = absurd (both_lengths words old _ _ (unsuitable_not_yet why) reason is)
-unsuitable_owed words old why (status.BadLine n kind) reason is = absurd (both_lengths words old _ _ (unsuitable_can_run why) reason is.0)
-unsuitable_owed words old why status.Done reason is = absurd (both_lengths words old _ _ (unsuitable_can_run why) reason is.0)
+unsuitable_owed words old why status.NotYet reason is =
+    absurd (both_lengths words old _ _ (unsuitable_not_yet why) reason is)
+unsuitable_owed words old why (status.BadLine n kind) reason is =
+    absurd (both_lengths words old _ _ (unsuitable_can_run why) reason is.0)
+unsuitable_owed words old why status.Done reason is =
+    absurd (both_lengths words old _ _ (unsuitable_can_run why) reason is.0)
 unsuitable_owed words old why never reason is = absurd is
 
 -- the answer is NotYet
@@ -82,23 +94,28 @@ not_yet_owed : (words : List (List ℕ)) (old : Outside) (owed : Status) → Has
     → IsOwed owed words old → status.NotYet ≡ owed
 not_yet_owed words old status.Usage reason is = absurd (is reason.choice reason.says)
 not_yet_owed words old (status.Unsuitable why) reason is =
-    absurd (both_lengths words old _ _ (λ block image disk later refused. unsuitable_not_yet why block image disk refused later) reason is)
+    absurd (both_lengths words old _ _ (λ block image disk later refused. unsuitable_not_yet why
+    block image disk refused later) reason is)
 not_yet_owed words old status.NotYet reason is = refl
-not_yet_owed words old (status.BadLine n kind) reason is = absurd (both_lengths words old _ _ not_yet_can_run reason is.0)
+not_yet_owed words old (status.BadLine n kind) reason is =
+    absurd (both_lengths words old _ _ not_yet_can_run reason is.0)
 not_yet_owed words old status.Done reason is = absurd (both_lengths words old _ _ not_yet_can_run reason is.0)
 not_yet_owed words old never reason is = absurd is
 
 -- words and lengths are good, and so is what the schedule owes
 runs_owed : (words : List (List ℕ)) (old : Outside) (answer owed : Status) → Chooses words old CanRun
-    → ((n : ℕ) (kind : LineFault) → IsSomeAnd (old.told Schedule) (λ text. (events : List Event) × FailsAt text events n kind)
+    → ((n : ℕ) (kind : LineFault) → IsSomeAnd (old.told Schedule)
+    (λ text. (events : List Event) × FailsAt text events n kind)
     → answer ≡ status.BadLine n kind)
     → (IsSomeAnd (old.told Schedule) (λ text. (events : List Event) × IsSchedule text events) → answer ≡ status.Done)
     → IsOwed owed words old → answer ≡ owed
 runs_owed words old answer status.Usage can bad done is = absurd (is can.choice can.says)
 runs_owed words old answer (status.Unsuitable why) can bad done is =
-    absurd (both_lengths words old _ _ (λ block image disk good refused. unsuitable_can_run why block image disk refused good) can is)
+    absurd (both_lengths words old _ _ (λ block image disk good refused. unsuitable_can_run why
+    block image disk refused good) can is)
 runs_owed words old answer status.NotYet can bad done is =
-    absurd (both_lengths words old _ _ (λ block image disk good later. not_yet_can_run block image disk later good) can is)
+    absurd (both_lengths words old _ _ (λ block image disk good later. not_yet_can_run block image disk later good)
+    can is)
 runs_owed words old answer (status.BadLine n kind) can bad done is = bad n kind is.1
 runs_owed words old answer status.Done can bad done is = done is.1
 runs_owed words old answer never can bad done is = absurd is
@@ -130,18 +147,23 @@ pub owed_answer : (words : List (List ℕ)) (old new : Outside) (answer : Status
     → OnBadLineStatus answer (RunIsBad words old new) → OnDone answer (RunIsDone words old new)
     → HasItsCause answer old new → AnswersWhatIsOwed answer words old new
 owed_answer words old new status.Usage reason bad done cause owed is none = inl (usage_owed words old owed reason is)
-owed_answer words old new (status.Unsuitable why) reason bad done cause owed is none = inl (unsuitable_owed words old why owed reason is)
+owed_answer words old new (status.Unsuitable why) reason bad done cause owed is none =
+    inl (unsuitable_owed words old why owed reason is)
 owed_answer words old new status.NotYet reason bad done cause owed is none = inl (not_yet_owed words old owed reason is)
 owed_answer words old new (status.BadLine n kind) reason bad done cause owed is none =
     inl (bad_line_found words old new n kind owed reason bad is)
-owed_answer words old new status.Done reason bad done cause owed is none = inl (whole_done words old new owed reason done is)
-owed_answer words old new (status.ReadFault role) reason bad done cause owed is none = absurd (none Reads role cause.rose)
-owed_answer words old new (status.WriteFault role) reason bad done cause owed is none = absurd (none Writes role cause.rose)
+owed_answer words old new status.Done reason bad done cause owed is none =
+    inl (whole_done words old new owed reason done is)
+owed_answer words old new (status.ReadFault role) reason bad done cause owed is none =
+    absurd (none Reads role cause.rose)
+owed_answer words old new (status.WriteFault role) reason bad done cause owed is none =
+    absurd (none Writes role cause.rose)
 owed_answer words old new status.NoMemory reason bad done cause owed is none = inr refl
 
 -- the same of a run that stopped
 pub owed_stop : (words : List (List ℕ)) (old new : Outside) (why : Stop) → HasItsReason (status_of why) words old
     → OnBadLineStatus (status_of why) (RunIsBad words old new)
     → HasItsCause (status_of why) old new → AnswersWhatIsOwed (status_of why) words old new
-owed_stop words old new (stop.BadLine n kind) reason bad cause = owed_answer words old new (status.BadLine n kind) reason bad tt cause
+owed_stop words old new (stop.BadLine n kind) reason bad cause = owed_answer words old new
+    (status.BadLine n kind) reason bad tt cause
 owed_stop words old new other reason bad cause = owed_answer words old new (status_of other) reason tt tt cause

@@ -31,10 +31,12 @@ events_length (entry ∷ entries) = ap suc (events_length entries)
 -- what was reported stays reported, when nothing else was
 still_played : (start : Physical) (from to : Streams) (old new : Outside) (now : Physical) (entries : List Entry)
     → KeepsSaid from to old new → IsPlayed start from old now entries → IsPlayed start to new now entries
-still_played start from to old new now entries said was = record { run = was.run; said = said (history_text entries) was.said }
+still_played start from to old new now entries said was =
+    record { run = was.run; said = said (history_text entries) was.said }
 
 -- the next line was taken
-pub line_taken : (start : Physical) (from to : Streams) (old new : Outside) (now : Physical) (line : List ℕ) (number : ℕ)
+pub line_taken : (start : Physical) (from to : Streams) (old new : Outside) (now : Physical) (line : List ℕ)
+    (number : ℕ)
     → new.told Schedule ≡ old.told Schedule → KeepsSaid from to old new
     → IfTold (old.told Schedule) (λ text. (events : List Event) → HasRead text (unread from old text) events
     → IsNextLine text (unread to new text) events line)
@@ -49,7 +51,8 @@ line_taken start from to old new now line number same said taken was = record {
 }
 
 -- there is no next line: what was played before has failed there
-pub none_taken : (start : Physical) (from to : Streams) (old new : Outside) (now : Physical) (number : ℕ) (kind : LineFault)
+pub none_taken : (start : Physical) (from to : Streams) (old new : Outside) (now : Physical) (number : ℕ)
+    (kind : LineFault)
     → new.told Schedule ≡ old.told Schedule → KeepsSaid from to old new
     → IfTold (old.told Schedule) (λ text. (events : List Event) → HasNoEnd events → length events + 1 ≡ number
     → HasRead text (unread from old text) events → FailsAt text events number kind)
@@ -63,8 +66,10 @@ none_taken start from to old new now number kind same said fails was = record {
 }
 
 -- the line that was taken fails
-pub taken_failed : (start : Physical) (s : Streams) (o : Outside) (now : Physical) (line : List ℕ) (number bad : ℕ) (kind : LineFault)
-    → number ≤ LAST_LINE → bad ≡ number → LineFails kind number line → HasTaken start s o now line number → HasFailed start s o now bad kind
+pub taken_failed : (start : Physical) (s : Streams) (o : Outside) (now : Physical) (line : List ℕ)
+    (number bad : ℕ) (kind : LineFault)
+    → number ≤ LAST_LINE → bad ≡ number → LineFails kind number line → HasTaken start s o now line number
+    → HasFailed start s o now bad kind
 taken_failed start s o now line number bad kind within is fails was = record {
   entries = was.entries;
   played = was.played;
@@ -76,7 +81,8 @@ taken_failed start s o now line number bad kind within is fails was = record {
 }
 
 -- it says an event, which was done and reported
-module _ (start : Physical) (from to : Streams) (old new : Outside) (before after : Physical) (line : List ℕ) (number : ℕ)
+module _ (start : Physical) (from to : Streams) (old new : Outside) (before after : Physical) (line : List ℕ)
+    (number : ℕ)
     (e : Event) (items : List Item) (bytes : List ℕ) (says : Says line e) (same : new.told Schedule ≡ old.told Schedule)
     (event : DriveEvent before (entry_of e items bytes) after)
     (told : Reports from to old new (items_text number items bytes))
@@ -112,7 +118,8 @@ module _ (start : Physical) (from to : Streams) (old new : Outside) (before afte
   }
 
 -- the line `end` was done, and nothing is left behind it
-pub played_out : (start : Physical) (s to : Streams) (o new : Outside) (now : Physical) (number : ℕ) → new.told Schedule ≡ o.told Schedule
+pub played_out : (start : Physical) (s to : Streams) (o new : Outside) (now : Physical) (number : ℕ)
+    → new.told Schedule ≡ o.told Schedule
     → IfTold (o.told Schedule) (λ text. unread s o text ≡ []) → KeepsSaid s to o new
     → HasDoneEnd start s o now number → HasEnded start to new now number
 played_out start s to o new now number same nothing said done = record {
@@ -120,12 +127,14 @@ played_out start s to o new now number same nothing said done = record {
   played = still_played start s to o new now done.entries said done.played;
   schedule = IfTold-same _ (sym same)
       (IfTold-both (o.told Schedule) _ _ _
-      (λ text read end. (done.ended, subst (λ left. HasRead text left (events_of done.entries)) end read)) done.read nothing);
+      (λ text read end. (done.ended, subst (λ left. HasRead text left (events_of done.entries)) end read))
+      done.read nothing);
   length = done.length;
 }
 
 -- something follows it
-pub failed_behind : (start : Physical) (s to : Streams) (o new : Outside) (now : Physical) (number bad : ℕ) (kind : LineFault)
+pub failed_behind : (start : Physical) (s to : Streams) (o new : Outside) (now : Physical) (number bad : ℕ)
+    (kind : LineFault)
     → new.told Schedule ≡ o.told Schedule → KeepsSaid s to o new
     → bad ≡ number + 1 → kind ≡ fault.Trailing → IfTold (o.told Schedule) (λ text. unread s o text ≢ [])
     → HasDoneEnd start s o now number → HasFailed start to new now bad kind
@@ -152,7 +161,8 @@ failed_on start s to o new now number kind same said failed = record {
   fails = IfTold-same _ (sym same) failed.fails;
 }
 
--- so far in the loop over lines: no count rose, no file but the report changed, and the lines before this number were played
+-- so far in the loop over lines: no count rose, no file but the report changed, and the lines before this number were
+-- played
 pub record PlaysOn (from to : Streams) (old new : Outside) (before after : Physical) (number : ℕ) : Type 0 where
   pub counts : SameCounts old new
   pub files : KeepsFiles old new

@@ -24,7 +24,8 @@ items_text-push number (first ∷ items) one bytes =
     ap (λ xs. line_text number first bytes ++ xs) (items_text-push number items one bytes)
     ∙ sym (append_assoc (line_text number first bytes) (items_text number items bytes) (line_text number one bytes))
 
-pub ReportsFront-line : (from mid to : Streams) (old now new : Outside) (number i : ℕ) (items shown : List Item) (d : Item) (bytes : List ℕ)
+pub ReportsFront-line : (from mid to : Streams) (old now new : Outside) (number i : ℕ) (items shown : List Item)
+    (d : Item) (bytes : List ℕ)
     → shown ≡ items → i < length shown
     → ReportsFront from mid old now (items_text number (take i items) bytes)
     → SameCounts now new → KeepsFiles now new

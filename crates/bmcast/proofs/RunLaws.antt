@@ -24,7 +24,8 @@ use Rattle.bmcast.proofs.Told.{IfTold-weaker, IfTold-all, IfTold-same}
 use Rattle.bmcast.proofs.WaitingLaws.{Waits-none, Waits-all}
 
 -- before the first line
-played_none : (s : Streams) (o : Outside) (p : Physical) → IsReady o → s.pending.items ≡ [] → s.at ≡ s.end → HasPlayed p s o p 1
+played_none : (s : Streams) (o : Outside) (p : Physical) → IsReady o → s.pending.items ≡ [] → s.at ≡ s.end
+    → HasPlayed p s o p 1
 played_none s o p ready none taken = record {
   entries = [];
   played = record {
@@ -122,7 +123,8 @@ was_run memory o1 o2 before after entries left was run =
 -- all steps of a run from the moment at which image and disk are known
 pub done : (o1 o2 o3 o4 o5 : Outside) (before after : Physical) (memory : ℕ)
     → LeavesFiles status.Done o1 o2 → SameBytes o2 o3 → KeepsFiles o3 o4 → KeepsFilesBut Out o4 o5
-    → IsLoaded memory o2 before → IsReported o3 o4 before after → IfTold (o5.told Out) (λ out. out ≡ concat after.kept.durable)
+    → IsLoaded memory o2 before → IsReported o3 o4 before after
+    → IfTold (o5.told Out) (λ out. out ≡ concat after.kept.durable)
     → IsDone memory o1 o5
 done o1 o2 o3 o4 o5 before after memory left loaded played written was told out =
     let plain = beside memory before after told.entries was.began told.run in
@@ -181,7 +183,8 @@ bad_line_since memory o0 o1 o4 number kind kept bad = record {
 }
 
 -- the same after the line on Console
-pub bad_line_told : (words : List (List ℕ)) (o0 o4 o5 : Outside) (number : ℕ) (kind : LineFault) → SameElsewhere Console o4 o5
+pub bad_line_told : (words : List (List ℕ)) (o0 o4 o5 : Outside) (number : ℕ) (kind : LineFault)
+    → SameElsewhere Console o4 o5
     → RunIsBad words o0 o4 number kind → RunIsBad words o0 o5 number kind
 bad_line_told words o0 o4 o5 number kind kept bad = record {
   choice = bad.choice;

@@ -61,13 +61,15 @@ bad_line_weaker other P Q step p = tt
 
 -- two facts of a bad line give a third
 pub bad_line_both : {T : Type 0} (result : Result T Stop) (P Q R : ℕ → LineFault → Type 0)
-    → ((n : ℕ) (kind : LineFault) → P n kind → Q n kind → R n kind) → OnBadLine result P → OnBadLine result Q → OnBadLine result R
+    → ((n : ℕ) (kind : LineFault) → P n kind → Q n kind → R n kind) → OnBadLine result P → OnBadLine result Q
+    → OnBadLine result R
 bad_line_both (Err (stop.BadLine n kind)) P Q R step p q = step n kind p q
 bad_line_both other P Q R step p q = tt
 
 -- a fact of a bad line, from another and what holds unless there is a fault
 pub bad_line_from : {T : Type 0} (result : Result T Stop) (S : Type 0) (P Q : ℕ → LineFault → Type 0)
-    → ((n : ℕ) (kind : LineFault) → S → P n kind → Q n kind) → UnlessFault result S → OnBadLine result P → OnBadLine result Q
+    → ((n : ℕ) (kind : LineFault) → S → P n kind → Q n kind) → UnlessFault result S → OnBadLine result P
+    → OnBadLine result Q
 bad_line_from (Err (stop.BadLine n kind)) S P Q step s p = step n kind s p
 bad_line_from other S P Q step s p = tt
 
@@ -86,17 +88,23 @@ console_until (stop.WriteFault role) a b rose = elim (same_role Console role) [
 console_until other a b same = let e = same.writes Console in omega arith
 
 -- what was told on Console after a run stopped was told since the run began
-pub told_since : (text : List ℕ) (a b c : Outside) (why : Stop) → Stopped why a b → SameConsole a b → IsTold text b c → IsTold text a c
+pub told_since : (text : List ℕ) (a b c : Outside) (why : Stop) → Stopped why a b → SameConsole a b
+    → IsTold text b c → IsTold text a c
 told_since text a b c why stopped same (inl all) =
     inl (subst (λ o. Becomes (λ before after. after ≡ before ++ text) o (c.told Console)) same all)
 told_since text a b c why stopped same (inr part) =
     let kept = console_until why a b stopped in
     let rose = part.0.kept in
     let more = part.0.more in
-    inr (record { kept = omega arith; more = omega arith }, subst (λ o. Becomes (AppendsPrefix text) o (c.told Console)) same part.1)
+    inr (
+      record { kept = omega arith; more = omega arith },
+      subst
+          (λ o. Becomes (AppendsPrefix text) o (c.told Console)) same part.1,
+    )
 
 -- a fact of a bad line is one of its status
-pub bad_line_status : (T : Type 0) (why : Stop) (P Q : ℕ → LineFault → Type 0) → ((n : ℕ) (kind : LineFault) → P n kind → Q n kind)
+pub bad_line_status : (T : Type 0) (why : Stop) (P Q : ℕ → LineFault → Type 0)
+    → ((n : ℕ) (kind : LineFault) → P n kind → Q n kind)
     → OnBadLine {T = T} (Err why) P → OnBadLineStatus (status_of why) Q
 bad_line_status T (stop.BadLine n kind) P Q step p = step n kind p
 bad_line_status T other P Q step p = tt

@@ -19,11 +19,13 @@ pub IfTold-same : {o p : Option (List ℕ)} (P : List ℕ → Type 0) → o ≡ 
 IfTold-same P same = subst (λ told. IfTold told P) same
 
 -- two facts of what is told give a third
-pub IfTold-both : (o : Option (List ℕ)) (P Q R : List ℕ → Type 0) → ((x : List ℕ) → P x → Q x → R x) → IfTold o P → IfTold o Q → IfTold o R
+pub IfTold-both : (o : Option (List ℕ)) (P Q R : List ℕ → Type 0) → ((x : List ℕ) → P x → Q x → R x)
+    → IfTold o P → IfTold o Q → IfTold o R
 IfTold-both None P Q R joined p q = tt
 IfTold-both (Some x) P Q R joined p q = joined x p q
 
 -- what is begun to be read is as it was
-pub begun_kept : (role : Role) → ((bytes : List ℕ) → begun role bytes ≡ bytes) → (o : Option (List ℕ)) → option_map (begun role) o ≡ o
+pub begun_kept : (role : Role) → ((bytes : List ℕ) → begun role bytes ≡ bytes) → (o : Option (List ℕ))
+    → option_map (begun role) o ≡ o
 begun_kept role kept None = refl
 begun_kept role kept (Some bytes) = ap Some (kept bytes)

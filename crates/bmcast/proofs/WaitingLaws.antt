@@ -6,7 +6,8 @@ use Rattle.bmcast.specs.Waiting.{Waits}
 use Rattle.bmcast.proofs.Told.{IfTold-weaker}
 
 -- nothing is written and nothing waits
-pub Waits-none : (role : Role) (outside : Outside) (waiting : List ℕ) → waiting ≡ [] → IfTold (outside.told role) (λ written. written ≡ [])
+pub Waits-none : (role : Role) (outside : Outside) (waiting : List ℕ) → waiting ≡ []
+    → IfTold (outside.told role) (λ written. written ≡ [])
     → Waits role waiting outside []
 Waits-none role outside waiting none empty = IfTold-weaker (outside.told role) _ _
     (λ written e. ap (λ xs. written ++ xs) none ∙ append-nil written ∙ e) empty
@@ -18,7 +19,8 @@ Waits-more role outside waiting text bytes = IfTold-weaker (outside.told role) _
     (λ written so. sym (append_assoc written waiting bytes) ∙ ap (λ xs. xs ++ bytes) so)
 
 -- nothing waits any more: all of the text is written
-pub Waits-all : (role : Role) (outside : Outside) (waiting text : List ℕ) → waiting ≡ [] → Waits role waiting outside text
+pub Waits-all : (role : Role) (outside : Outside) (waiting text : List ℕ) → waiting ≡ []
+    → Waits role waiting outside text
     → IfTold (outside.told role) (λ written. written ≡ text)
 Waits-all role outside waiting text none = IfTold-weaker (outside.told role) _ _
     (λ written so. sym (append-nil written) ∙ ap (λ xs. written ++ xs) (sym none) ∙ so)

@@ -13,7 +13,8 @@ own : IsNumeralModel (AllDigits 10) (digits_value 10)
 own = numerals_by_value _ (search rules)
 
 -- a decimal is the text of its value
-pub decimal_of : (digits : List ℕ) → IsDecimal digits → digits_value 10 digits < 2 ^ 64 → digits ≡ decimal (digits_value 10 digits)
+pub decimal_of : (digits : List ℕ) → IsDecimal digits → digits_value 10 digits < 2 ^ 64
+    → digits ≡ decimal (digits_value 10 digits)
 decimal_of digits (numeral, single) small = sym (decimal-digits_value own digits numeral.1 numeral.0 single small)
 
 -- and the text of a number is a decimal, of that value

@@ -8,7 +8,8 @@ use Rattle.plain_drive.specs.Identify.{identity_front, identity_word}
 use Rattle.plain_drive.proofs.Blocks.{word_at, bytes_pushed}
 
 -- a word more is counted
-pub length_pushed : (n w : ℕ) (block : List ℕ) → n < length block → length (take n block) ≡ n → length (take (n + 1) (set block n w)) ≡ n + 1
+pub length_pushed : (n w : ℕ) (block : List ℕ) → n < length block → length (take n block) ≡ n
+    → length (take (n + 1) (set block n w)) ≡ n + 1
 length_pushed n w block room e =
     let sum = length-append (take n block) (w ∷ []) in
     rw (take_more_set block n w room) (omega arith)
@@ -26,7 +27,8 @@ pub whole_bytes : (bytes : List ℕ) → length bytes ≡ 512 → take 512 bytes
 whole_bytes bytes whole = take_all 512 bytes (omega arith)
 
 -- the next word of IDENTIFY DEVICE
-pub identity_more : (i n w : ℕ) (words : List ℕ) → i < length words → take i words ≡ identity_front i n → w ≡ identity_word i n
+pub identity_more : (i n w : ℕ) (words : List ℕ) → i < length words → take i words ≡ identity_front i n
+    → w ≡ identity_word i n
     → take (i + 1) (set words i w) ≡ identity_front (i + 1) n
 unfolding identity_front
 identity_more i n w words room so_far is =
@@ -39,12 +41,14 @@ unfolding identity_front
 identity_none n words = refl
 
 -- the next word of a sector
-pub words_more : (i w : ℕ) (bytes words : List ℕ) → length bytes ≡ 512 → i < 256 → i < length words → take i words ≡ take i (words_of bytes)
+pub words_more : (i w : ℕ) (bytes words : List ℕ) → length bytes ≡ 512 → i < 256 → i < length words
+    → take i words ≡ take i (words_of bytes)
     → w ≡ get_or bytes (2 * i) 0 + 256 * get_or bytes (2 * i + 1) 0
     → take (i + 1) (set words i w) ≡ take (i + 1) (words_of bytes)
 words_more i w bytes words whole below room so_far is =
     let at = word_at i bytes (omega arith) in
-    take_more_set words i w room ∙ rw so_far (ap (λ v. take i (words_of bytes) ++ v ∷ []) (is ∙ sym at.1)) ∙ sym (take_more (words_of bytes) i 0 at.0)
+    take_more_set words i w room ∙ rw so_far (ap (λ v. take i (words_of bytes) ++ v ∷ []) (is ∙ sym at.1))
+    ∙ sym (take_more (words_of bytes) i 0 at.0)
 
 -- the next two bytes of a block
 two_pushed : (n low high : ℕ) (bytes : List ℕ) → n + 1 < length bytes

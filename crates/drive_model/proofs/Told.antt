@@ -7,11 +7,13 @@ use Rattle.drive_model.specs.declared.cached_store.CachedStore.{CachedStore}
 use Rattle.drive_model.specs.CachedStore.{list_told}
 
 -- the same store tells the same
-pub same_told : {S : Type 0} {T : Ghosts S} (old new : CachedStore S T) → new ≡ old → (T.sectors new.store).told ≡ (T.sectors old.store).told
+pub same_told : {S : Type 0} {T : Ghosts S} (old new : CachedStore S T) → new ≡ old
+    → (T.sectors new.store).told ≡ (T.sectors old.store).told
 same_told {S} {T} old new same = ap (λ (s : CachedStore S T). (T.sectors s.store).told) same
 
 -- where what is told stays it holds if it does once something is told
-pub becomes_told : (P : Type 0) (old new : Option (List (List ℕ))) → new ≡ old → (is_some old ≡ true → P) → Becomes (λ _ _. P) old new
+pub becomes_told : (P : Type 0) (old new : Option (List (List ℕ))) → new ≡ old → (is_some old ≡ true → P)
+    → Becomes (λ _ _. P) old new
 becomes_told P None None same p = tt
 becomes_told P None (Some list) same p = absurd cc
 becomes_told P (Some list) None same p = tt
@@ -22,14 +24,16 @@ pub becomes_same : (P : Type 0) (old new : Option (List (List ℕ))) → new ≡
 becomes_same P old new same p = becomes_told P old new same (λ _. p)
 
 -- what follows of it holds too
-pub becomes_so : (P Q : Type 0) (old new : Option (List (List ℕ))) → (P → Q) → Becomes (λ _ _. P) old new → Becomes (λ _ _. Q) old new
+pub becomes_so : (P Q : Type 0) (old new : Option (List (List ℕ))) → (P → Q) → Becomes (λ _ _. P) old new
+    → Becomes (λ _ _. Q) old new
 becomes_so P Q None None f b = tt
 becomes_so P Q None (Some new) f b = b
 becomes_so P Q (Some old) None f b = tt
 becomes_so P Q (Some old) (Some new) f b = f b
 
 -- told sectors are as many as there are
-pub told_many : (count : ℕ) (told : Option (List (List ℕ))) → IfSome told (λ list. IsListOf count list) → is_some told ≡ true
+pub told_many : (count : ℕ) (told : Option (List (List ℕ))) → IfSome told (λ list. IsListOf count list)
+    → is_some told ≡ true
     → length (list_told told) ≡ count
 told_many count None whole is = absurd cc
 told_many count (Some list) whole is = whole.number

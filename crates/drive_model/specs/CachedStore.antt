@@ -37,6 +37,7 @@ pub record CallsStore {S : Type 0} {T : Ghosts S} {R E : Type 0}
   pub count : (T.sectors new.store).count ≡ (T.sectors old.store).count
 
 -- this holds where its store tells its sectors before and after; it doesn't begin to tell them
-abbrev pub IfStoreTold : {S : Type 0} {T : Ghosts S} → CachedStore S T → CachedStore S T → Type 0 → Type 0
+abbrev pub IfStoreTold : {S : Type 0} {T : Ghosts S} → CachedStore S T → CachedStore S T
+    → Type 0 → Type 0
 IfStoreTold {S} {T} old new P =
     Becomes (λ _ _. P) (T.sectors old.store).told (T.sectors new.store).told

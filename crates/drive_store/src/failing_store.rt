@@ -4,8 +4,8 @@ use crate::{MemoryStore, Store, StoreFault};
 
 /// A store in memory of which one call fails, by its number: for tests of what stands above a store.
 ///
-/// Its calls `get` and `set` are counted from 0, and exactly the one whose number is planned fails. That call changes no
-/// sector. No call takes memory.
+/// Its calls `get` and `set` are counted from 0, and exactly the one whose number is planned fails. That call changes
+/// no sector. No call takes memory.
 #[derive(Drop)]
 pub struct FailingStore {
     memory: MemoryStore,

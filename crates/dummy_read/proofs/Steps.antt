@@ -14,10 +14,13 @@ use Rattle.dummy_read.specs.Dummy.{job_on}
 use Rattle.dummy_read.specs.Flight.{FliesIn, IsInFlight}
 
 -- where the drive stands, by its phase
-stands_at : (sector : ℕ) (cancelled : Bool) (phase : Phase) (p : Plain) → p.device.file.phase ≡ phase → IsInFlight sector cancelled p.device → FliesIn phase p.device.file.failed sector p.device.sectors
-stands_at sector cancelled phase p e f = let P : Phase → Type 0 = λ x. FliesIn x p.device.file.failed sector p.device.sectors in subst P e f.stands
+stands_at : (sector : ℕ) (cancelled : Bool) (phase : Phase) (p : Plain) → p.device.file.phase ≡ phase
+    → IsInFlight sector cancelled p.device → FliesIn phase p.device.file.failed sector p.device.sectors
+stands_at sector cancelled phase p e f = let P : Phase
+    → Type 0 = λ x. FliesIn x p.device.file.failed sector p.device.sectors in subst P e f.stands
 
-read_flies : (sector : ℕ) (cancelled : Bool) (order : Request) (position : ℕ) (p : Plain) → p.device.file.phase ≡ Busy (Good order) position
+read_flies : (sector : ℕ) (cancelled : Bool) (order : Request) (position : ℕ) (p : Plain)
+    → p.device.file.phase ≡ Busy (Good order) position
     → IsInFlight sector cancelled p.device → IsInFlight sector cancelled (gone (Busy (Good order) position) p).device
 read_flies sector cancelled order position p e f =
     let s = stands_at sector cancelled (Busy (Good order) position) p e f in
@@ -32,20 +35,23 @@ refused_flies : (sector : ℕ) (cancelled : Bool) (reason : Refused) (position :
     → IsInFlight sector cancelled p.device → IsInFlight sector cancelled (gave_up (Busy (Bad reason) position) p).device
 refused_flies sector cancelled reason position p f = grind arith
 
-good_flies : (sector : ℕ) (cancelled : Bool) (phase : Phase) (p : Plain) → p.device.file.phase ≡ phase → IsInFlight sector cancelled p.device → IsInFlight sector cancelled (gone phase p).device
+good_flies : (sector : ℕ) (cancelled : Bool) (phase : Phase) (p : Plain) → p.device.file.phase ≡ phase
+    → IsInFlight sector cancelled p.device → IsInFlight sector cancelled (gone phase p).device
 good_flies sector cancelled Reset p e f = absurd (stands_at sector cancelled Reset p e f)
 good_flies sector cancelled Idle p e f = f
 good_flies sector cancelled (Ready taken position left) p e f = f
 good_flies sector cancelled (Busy (Bad reason) position) p e f = refused_flies sector cancelled reason position p f
 good_flies sector cancelled (Busy (Good order) position) p e f = read_flies sector cancelled order position p e f
 
-bad_flies : (sector : ℕ) (cancelled : Bool) (phase : Phase) (p : Plain) → IsInFlight sector cancelled p.device → IsInFlight sector cancelled (gave_up phase p).device
+bad_flies : (sector : ℕ) (cancelled : Bool) (phase : Phase) (p : Plain) → IsInFlight sector cancelled p.device
+    → IsInFlight sector cancelled (gave_up phase p).device
 bad_flies sector cancelled Reset p f = f
 bad_flies sector cancelled Idle p f = f
 bad_flies sector cancelled (Ready taken position left) p f = f
 bad_flies sector cancelled (Busy (Bad reason) position) p f = refused_flies sector cancelled reason position p f
 bad_flies sector cancelled (Busy (Good order) position) p f = failed_flies sector cancelled order position p f
 
-pub step_flies : (sector : ℕ) (cancelled : Bool) (s : Step) (p : Plain) → IsInFlight sector cancelled p.device → IsInFlight sector cancelled (step_made s p).device
+pub step_flies : (sector : ℕ) (cancelled : Bool) (s : Step) (p : Plain) → IsInFlight sector cancelled p.device
+    → IsInFlight sector cancelled (step_made s p).device
 step_flies sector cancelled step.Good p f = good_flies sector cancelled p.device.file.phase p refl f
 step_flies sector cancelled step.Bad p f = bad_flies sector cancelled p.device.file.phase p f

@@ -28,7 +28,8 @@ past_byte (suc n) = refl
 
 -- the bits of a set from one place on
 front : (set : List Bool) (at n : ℕ)
-    → byte_of (take (suc n) (drop at set)) ≡ (if get_or set at false then 1 else 0) + 2 * byte_of (take n (drop (at + 1) set))
+    → byte_of (take (suc n) (drop at set)) ≡ (if get_or set at false then 1 else 0) + 2 * byte_of
+    (take n (drop (at + 1) set))
 front set at n = elim (cases_lt at (length set)) [
   | inl inside ↦ rw (drop_more set at false inside) refl
   | inr past ↦ rw (drop_all at set past) (let none : drop (at + 1) set ≡ [] = drop_all (at + 1) set (omega arith) in
@@ -38,7 +39,8 @@ front set at n = elim (cases_lt at (length set)) [
 -- one bit more, at the front
 pub byte_more : (set : List Bool) (at next n more : ℕ) → next ≡ at + 1 → more ≡ n + 1
     → byte_of (take more (drop at set)) ≡ (if get_or set at false then 1 else 0) + 2 * byte_of (take n (drop next set))
-byte_more set at next n more behind one = rw (behind, one) (let e : n + 1 ≡ suc n = omega arith in rw e (front set at n))
+byte_more set at next n more behind one = rw (behind, one) (let e : n + 1 ≡ suc n = omega arith in
+    rw e (front set at n))
 
 -- bytes that are each a byte of the blocks from one on
 pub bytes_are : (n b : ℕ) (set : List Bool) (bytes : List ℕ) → length bytes ≡ n
@@ -69,7 +71,8 @@ byte_in n b set i inside = get_or-map-range_with_len (λ i. byte_from (b + 8 * i
 
 -- a block's bit, among eight from a place on
 bit_from : (p n : ℕ) (set : List Bool) → n < 8 → (bit_at (byte_from p set) n == 1) ≡ has set (p + n)
-bit_from p n set few = bit_of_byte (take 8 (drop p set)) n ∙ get_or-take 8 (drop p set) n false few ∙ get_or-drop p set n false
+bit_from p n set few = bit_of_byte (take 8 (drop p set)) n ∙ get_or-take 8 (drop p set) n false few
+    ∙ get_or-drop p set n false
 
 -- the sector of the bitmap that holds a block has its bit set where the set has it
 pub bit_written : (k b : ℕ) (set : List Bool) → b / 4096 ≡ k → has_bit (sector_of k set) b ≡ has set b

@@ -30,33 +30,44 @@ written_bit area id set disk holds b inside =
     sym (ap (λ bytes. has_bit bytes b) sector ∙ bit_written (b / 4096) b set refl)
 
 -- a disk with the header passes the test for it
-pub has_header-true : (area : Area) (id : ℕ) (disk : List (List ℕ)) → HasHeader area id disk → has_header area id disk ≡ true
-has_header-true area id disk header = (bytes_eq-Decides (sector_at (reserved_of area) disk) (header_of area id)).1 header
+pub has_header-true : (area : Area) (id : ℕ) (disk : List (List ℕ)) → HasHeader area id disk
+    → has_header area id disk ≡ true
+has_header-true area id disk header = (bytes_eq-Decides (sector_at (reserved_of area) disk) (header_of area id)).1
+    header
 
 -- where a set was written, it is stored
 pub stored_set : (area : Area) (id : ℕ) (set : List Bool) (disk : List (List ℕ)) → HoldsSet area id set disk
     → stored_blocks area id disk ≡ set
 stored_set area id set disk holds =
     rw (has_header-true area id disk holds.header)
-    (sym (fill_by_all (says_stored area disk) set (blocks_of area) false holds.blocks (written_bit area id set disk holds)))
+    (sym (fill_by_all (says_stored area disk) set (blocks_of area) false holds.blocks
+    (written_bit area id set disk holds)))
 
 -- the blocks of one sector more, in which a block has the bit y
 one_more : (k b : ℕ) (x y : Bool) → (b / 4096 ≡ k → y ≡ x)
     → ((nat_lt b (k * 4096) && x) || ((b / 4096 == k) && y)) ≡ (nat_lt b (suc k * 4096) && x)
 one_more k b x y same = elim (cases_lt b (k * 4096)) [
-  | inl low ↦ rw (lt-ltb b (k * 4096) low, ne_eqb (b / 4096) k (λ e. omega arith), lt-ltb b (suc k * 4096) (omega arith)) (or-false x)
+  | inl low ↦ rw (
+    lt-ltb b (k * 4096) low,
+    ne_eqb (b / 4096) k (λ e. omega arith),
+    lt-ltb b (suc k * 4096)
+        (omega arith),
+  ) (or-false x)
   | inr high ↦ elim (cases_lt b (suc k * 4096)) [
     | inl here ↦
         let is : b / 4096 ≡ k = omega arith in
         rw (le-ltb b (k * 4096) high, eq-eqb (b / 4096) k is, lt-ltb b (suc k * 4096) here) (same is)
-    | inr past ↦ rw (le-ltb b (k * 4096) high, ne_eqb (b / 4096) k (λ e. omega arith), le-ltb b (suc k * 4096) past) refl
+    | inr past ↦ rw (le-ltb b (k * 4096) high, ne_eqb (b / 4096) k (λ e. omega arith), le-ltb b (suc k * 4096) past)
+        refl
   ]
 ]
 
-length-with_sectors : (k : ℕ) (area : Area) (disk : List (List ℕ)) (set : List Bool) → length (with_sectors k area disk set) ≡ length set
+length-with_sectors : (k : ℕ) (area : Area) (disk : List (List ℕ)) (set : List Bool)
+    → length (with_sectors k area disk set) ≡ length set
 length-with_sectors zero area disk set = refl
 length-with_sectors (suc k) area disk set =
-    length-with_sector k (bitmap_sector area disk k) (with_sectors k area disk set) ∙ length-with_sectors k area disk set
+    length-with_sector k (bitmap_sector area disk k) (with_sectors k area disk set)
+    ∙ length-with_sectors k area disk set
 
 -- what the first so many sectors give
 has-with_sectors : (k : ℕ) (area : Area) (disk : List (List ℕ)) (n b : ℕ) → b < n
@@ -82,7 +93,8 @@ added_all area id disk header =
     rw (has_header-true area id disk header)
     (fill_by_all (says_stored area disk) (with_sectors (bitmap_sectors_of area) area disk (empty_set (blocks_of area)))
     (blocks_of area) false
-    (length-with_sectors (bitmap_sectors_of area) area disk (empty_set (blocks_of area)) ∙ length-replicate (blocks_of area) false)
+    (length-with_sectors (bitmap_sectors_of area) area disk (empty_set (blocks_of area))
+    ∙ length-replicate (blocks_of area) false)
     (λ b inside. has-with_sectors (bitmap_sectors_of area) area disk (blocks_of area) b inside
     ∙ ap (λ test. test && says_stored area disk b) (all_sectors (blocks_of area) b inside)))
 
@@ -112,7 +124,8 @@ seen_behind area set image disk s past = rw (le-ltb s area.image past) refl
 joined : (a r n s : ℕ) (image disk : List (List ℕ)) (area : Area) → area.image ≡ a → length image ≡ a → s < r
     → get_or (image ++ drop a (take r disk)) s [] ≡ sector_seen area (empty_set n) image disk s
 joined a r n s image disk area e long below = elim (cases_lt s a) [
-  | inl inside ↦ get_or_append_left image (drop a (take r disk)) [] s (omega arith) ∙ sym (seen_empty area n image disk s (omega arith))
+  | inl inside ↦ get_or_append_left image (drop a (take r disk)) [] s (omega arith)
+      ∙ sym (seen_empty area n image disk s (omega arith))
   | inr past ↦
       let place : a + (s - a) ≡ s = omega arith in
       get_or-append_right image (drop a (take r disk)) a s [] long past ∙ get_or-drop a (take r disk) (s - a) []
@@ -131,7 +144,8 @@ pub fresh_view : (area : Area) (id : ℕ) (image disk : List (List ℕ)) → IsS
     → guest_view area id image disk ≡ image ++ drop area.image (take (reserved_of area) disk)
 fresh_view area id image disk suitable long none =
     let (behind, within) = bounds area suitable in
-    ap (λ set. map (sector_seen area set image disk) (range_with_len 0 (reserved_of area))) (none_stored area id disk none)
+    ap (λ set. map (sector_seen area set image disk) (range_with_len 0 (reserved_of area)))
+    (none_stored area id disk none)
     ∙ sym (fill_by_all (sector_seen area (empty_set (blocks_of area)) image disk)
     (image ++ drop area.image (take (reserved_of area) disk)) (reserved_of area) []
     (joined_length area.image (reserved_of area) image disk long.image_sectors behind (omega arith))

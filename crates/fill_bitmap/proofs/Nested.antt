@@ -20,16 +20,20 @@ within_kept k sector inner outer same within b held = elim (cases_lt b (length i
       ∙ or_kept (has inner b) (has outer b) ((b / 4096 == k) && has_bit sector b) (within b)
       (sym (has-with_sector k sector inner b inside) ∙ held)
   | inr past ↦
-      let beyond = get_or_past (with_sector k sector inner) b false (omega (arith, length-with_sector k sector inner)) in
+      let beyond = get_or_past (with_sector k sector inner) b false
+      (omega (arith, length-with_sector k sector inner)) in
       let none : true ≡ false = sym held ∙ beyond in cc
 ]
 
 -- sets that get the same blocks stay within each other
 pub loaded_nested : (k : ℕ) (sector : List ℕ) (s : Sets) → IsNested s → IsNested (loaded k sector s)
 loaded_nested k sector s nested = record {
-  stored_blocks = length-with_sector k sector s.stored ∙ nested.stored_blocks ∙ sym (length-with_sector k sector s.filled);
-  frozen_blocks = length-with_sector k sector s.frozen ∙ nested.frozen_blocks ∙ sym (length-with_sector k sector s.filled);
-  stored_frozen = within_kept k sector s.stored s.frozen (nested.stored_blocks ∙ sym nested.frozen_blocks) nested.stored_frozen;
+  stored_blocks = length-with_sector k sector s.stored ∙ nested.stored_blocks
+      ∙ sym (length-with_sector k sector s.filled);
+  frozen_blocks = length-with_sector k sector s.frozen ∙ nested.frozen_blocks
+      ∙ sym (length-with_sector k sector s.filled);
+  stored_frozen = within_kept k sector s.stored s.frozen (nested.stored_blocks ∙ sym nested.frozen_blocks)
+      nested.stored_frozen;
   frozen_filled = within_kept k sector s.frozen s.filled nested.frozen_blocks nested.frozen_filled;
 }
 

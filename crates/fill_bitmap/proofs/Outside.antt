@@ -13,7 +13,8 @@ use Rattle.fill_bitmap.specs.BlockSet.{IsWhole, has, first_outside, next_outside
 abbrev IsOutside : List Bool → ℕ → Type 0
 IsOutside set f = (f < length set) × (has set f ≡ false)
 
-found_at : (b : ℕ) (set : List Bool) (o : Option ℕ) → position not (drop b set) ≡ o → IfSome (option_map (λ i. b + i) o) (IsOutside set)
+found_at : (b : ℕ) (set : List Bool) (o : Option ℕ) → position not (drop b set) ≡ o
+    → IfSome (option_map (λ i. b + i) o) (IsOutside set)
 found_at b set None e = tt
 found_at b set (Some i) e =
     let (inside, passes, before) = position-Some not (drop b set) i false e in
@@ -29,7 +30,8 @@ none_found set e b inside =
     let most = no_place (position_or_len not set) (length set) e in
     not-false (get_or set b false) (fails_before_first not set b false (omega arith))
 
-either : (set : List Bool) (o p : Option ℕ) → IfSome o (IsOutside set) → IfSome p (IsOutside set) → IfSome (option_or o p) (IsOutside set)
+either : (set : List Bool) (o p : Option ℕ) → IfSome o (IsOutside set) → IfSome p (IsOutside set)
+    → IfSome (option_or o p) (IsOutside set)
 either set None p first second = second
 either set (Some f) p first second = first
 
@@ -70,6 +72,7 @@ not_whole set (Some f) h whole = let all = whole f h.0 in let lacks = h.1 in cc
 -- none is found exactly where the set has every block
 pub next_none : (b : ℕ) (set : List Bool) → IsNone (next_outside b set) ↔ IsWhole set
 next_none b set = (
-  (λ none. none_found set (no_image (λ i. 0 + i) (position not set) (none_second (first_outside b set) (first_outside 0 set) none))),
+  (λ none. none_found set (no_image (λ i. 0 + i) (position not set)
+      (none_second (first_outside b set) (first_outside 0 set) none))),
   not_whole set (next_outside b set) (found b set),
 )

@@ -11,10 +11,12 @@ other k j true y apart = grind arith
 other k j false y apart = grind (arith, nat_tests)
 
 -- a block behind the sector's last is as it was
-added_behind : (k : ℕ) (sector : List ℕ) (set : List Bool) (b : ℕ) → k * 4096 + 4096 ≤ b → has_added k sector set b ≡ has set b
+added_behind : (k : ℕ) (sector : List ℕ) (set : List Bool) (b : ℕ) → k * 4096 + 4096 ≤ b
+    → has_added k sector set b ≡ has set b
 added_behind k sector set b behind = other k b (has set b) (has_bit sector b) (λ e. omega arith)
 
--- a set whose blocks below a place, which the sector's end isn't above, are as they are to be, and the others as they were
+-- a set whose blocks below a place, which the sector's end isn't above, are as they are to be, and the others as they
+-- were
 pub all_added : (k : ℕ) (sector : List ℕ) (old new : List Bool) (place : ℕ) → length new ≡ length old
     → min (length old) (k * 4096 + 4096) ≤ place
     → ((b : ℕ) → b < place → has new b ≡ has_added k sector old b)
@@ -36,4 +38,5 @@ length-with_sector k sector set = length-map-range_with_len (has_added k sector 
 pub has-with_sector : (k : ℕ) (sector : List ℕ) (set : List Bool) (b : ℕ) → b < length set
     → has (with_sector k sector set) b ≡ has_added k sector set b
 unfolding with_sector
-has-with_sector k sector set b inside = get_or-map-range_with_len (has_added k sector set) 0 (length set) b b false inside (omega arith)
+has-with_sector k sector set b inside = get_or-map-range_with_len (has_added k sector set) 0
+    (length set) b b false inside (omega arith)

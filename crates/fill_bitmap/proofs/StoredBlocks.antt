@@ -31,20 +31,25 @@ held_inside set b held = elim (cases_lt b (length set)) [
 ]
 
 -- as many as the image has blocks
-pub length-stored_blocks : (area : Area) (id : ℕ) (disk : List (List ℕ)) → length (stored_blocks area id disk) ≡ blocks_of area
+pub length-stored_blocks : (area : Area) (id : ℕ) (disk : List (List ℕ))
+    → length (stored_blocks area id disk) ≡ blocks_of area
 length-stored_blocks area id disk =
-    cond_both (has_header area id disk) (map (says_stored area disk) (range_with_len 0 (blocks_of area))) (empty_set (blocks_of area))
+    cond_both (has_header area id disk) (map (says_stored area disk) (range_with_len 0 (blocks_of area)))
+    (empty_set (blocks_of area))
     (λ (set : List Bool). length set ≡ blocks_of area)
-    (λ yes. length-map-range_with_len (says_stored area disk) 0 (blocks_of area)) (λ no. length-replicate (blocks_of area) false)
+    (λ yes. length-map-range_with_len (says_stored area disk) 0 (blocks_of area))
+    (λ no. length-replicate (blocks_of area) false)
 
 -- a stored block is one of the image
-pub stored_inside : (area : Area) (id : ℕ) (disk : List (List ℕ)) (b : ℕ) → has (stored_blocks area id disk) b ≡ true → b < blocks_of area
+pub stored_inside : (area : Area) (id : ℕ) (disk : List (List ℕ)) (b : ℕ) → has (stored_blocks area id disk) b ≡ true
+    → b < blocks_of area
 stored_inside area id disk b held =
     let inside = held_inside (stored_blocks area id disk) b held in
     omega (arith, length-stored_blocks area id disk)
 
 -- disks with the same header and bitmap have the same stored blocks
-pub same_stored : (area : Area) (id : ℕ) (one other : List (List ℕ)) → sector_at (reserved_of area) one ≡ sector_at (reserved_of area) other
+pub same_stored : (area : Area) (id : ℕ) (one other : List (List ℕ))
+    → sector_at (reserved_of area) one ≡ sector_at (reserved_of area) other
     → ((k : ℕ) → k < bitmap_sectors_of area → bitmap_sector area one k ≡ bitmap_sector area other k)
     → stored_blocks area id one ≡ stored_blocks area id other
 same_stored area id one other header bits =

@@ -12,11 +12,12 @@ use Rattle.fill_bitmap.specs.BlockSet.{has, empty_set, with_sector}
 abbrev pub sector_at : ℕ → List (List ℕ) → List ℕ
 sector_at s sectors = slice_index_or sectors s []
 
--- a run's header: BMCFILL1, then its number, the image's sectors and a block's sectors with the high byte first, then zeros (own)
+-- a run's header: BMCFILL1, then its number, the image's sectors and a block's sectors with the high byte first, then
+-- zeros (own)
 unfoldable pub header_of : Area → ℕ → List ℕ
 header_of area id =
-    codes "BMCFILL1" ++ to_be_bytes w64 id ++ to_be_bytes w64 area.image ++ to_be_bytes w32 area.block
-    ++ replicate 484 0
+    codes "BMCFILL1" ++ to_be_bytes w64 id ++ to_be_bytes w64 area.image
+    ++ to_be_bytes w32 area.block ++ replicate 484 0
 
 -- the first reserved sector of a disk is the run's header (own)
 abbrev pub HasHeader : Area → ℕ → List (List ℕ) → Type 0

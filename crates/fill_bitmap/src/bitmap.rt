@@ -12,9 +12,9 @@ use std::marker::Model;
 /// Which blocks of an image are on the disk, as three sets of blocks (own).
 ///
 /// A filled block is one whose sectors the guest reads from the disk; any other is empty, and is read from the image.
-/// A frozen block was filled when the last settling began. A stored block has its bit in the bitmap on the disk, written
-/// behind a flush of its sectors, so it is filled after a power cut too. The stored blocks are always within the frozen
-/// ones, and these within the filled ones.
+/// A frozen block was filled when the last settling began. A stored block has its bit in the bitmap on the disk,
+/// written behind a flush of its sectors, so it is filled after a power cut too. The stored blocks are always within
+/// the frozen ones, and these within the filled ones.
 #[derive(Drop)]
 pub struct Bitmap {
     stored: BlockSet,

@@ -49,22 +49,26 @@ keeps_forgets area id least most old new forgets kept = record {
   reserved = kept.reserved ∙ sym forgets.cells;
   blocks = kept.blocks;
   header = each_forgets (λ value. value ≡ header_of area id) (reserved_of area) old new forgets kept.header;
-  bits = λ k inside. each_forgets (HasBitsBetween area k least most) (sector_of_bits area k) old new forgets (kept.bits k inside);
+  bits = λ k inside. each_forgets (HasBitsBetween area k least most) (sector_of_bits area k) old new forgets
+      (kept.bits k inside);
 }
 
 -- and where a sector elsewhere is written
 pub keeps_elsewhere : (area : Area) (id : ℕ) (least most : List Bool) (sector : ℕ) (bytes : List ℕ) (cells : List Cell)
-    → KeepsBits area id least most cells → sector < reserved_of area → KeepsBits area id least most (appended sector bytes cells)
+    → KeepsBits area id least most cells → sector < reserved_of area
+    → KeepsBits area id least most (appended sector bytes cells)
 keeps_elsewhere area id least most sector bytes cells kept elsewhere = record {
   reserved = kept.reserved ∙ sym (length-appended sector bytes cells);
   blocks = kept.blocks;
-  header = each_written (λ value. value ≡ header_of area id) sector (reserved_of area) bytes cells (λ e. absurd (omega arith)) kept.header;
+  header = each_written (λ value. value ≡ header_of area id) sector (reserved_of area) bytes cells
+      (λ e. absurd (omega arith)) kept.header;
   bits = λ k inside. each_written (HasBitsBetween area k least most) sector (sector_of_bits area k) bytes cells
       (λ e. absurd (omega arith)) (kept.bits k inside);
 }
 
 -- the sector that is written has the bits of the frozen blocks
-frozen_between : (area : Area) (k : ℕ) (least set : List Bool) → IsWithin least set → HasBitsBetween area k least set (sector_of k set)
+frozen_between : (area : Area) (k : ℕ) (least set : List Bool) → IsWithin least set
+    → HasBitsBetween area k least set (sector_of k set)
 frozen_between area k least set within = record {
   least_set = λ b at held. bit_written k b set at ∙ within b held;
   set_most = λ b inside at bit. sym (bit_written k b set at) ∙ bit;
@@ -72,15 +76,18 @@ frozen_between area k least set within = record {
 
 -- a write of frozen bits leaves what a cut may leave between its sets
 pub keeps_written : (area : Area) (id : ℕ) (least set : List Bool) (k : ℕ) (cells : List Cell) → IsWithin least set
-    → KeepsBits area id least set cells → KeepsBits area id least set (appended (sector_of_bits area k) (sector_of k set) cells)
+    → KeepsBits area id least set cells → KeepsBits area id least set
+    (appended (sector_of_bits area k) (sector_of k set) cells)
 keeps_written area id least set k cells within kept = record {
   reserved = kept.reserved ∙ sym (length-appended (sector_of_bits area k) (sector_of k set) cells);
   blocks = kept.blocks;
   header = each_written (λ value. value ≡ header_of area id) (sector_of_bits area k) (reserved_of area)
       (sector_of k set) cells (λ e. absurd (omega arith)) kept.header;
-  bits = λ j inside. each_written (HasBitsBetween area j least set) (sector_of_bits area k) (sector_of_bits area j) (sector_of k set) cells
+  bits = λ j inside. each_written (HasBitsBetween area j least set) (sector_of_bits area k) (sector_of_bits area j)
+      (sector_of k set) cells
       (λ e. let same : k ≡ j = omega arith in
-      subst (λ i. HasBitsBetween area j least set (sector_of i set)) (sym same) (frozen_between area j least set within))
+      subst (λ i. HasBitsBetween area j least set (sector_of i set)) (sym same)
+      (frozen_between area j least set within))
       (kept.bits j inside);
 }
 
@@ -95,7 +102,8 @@ keeps_frozen area id least most set cells long bits kept =
       blocks = long;
       header = after.header;
       bits = λ k inside. each_flushed (HasBitsBetween area k set set) (sector_of_bits area k) cells
-          (subst (HasBitsBetween area k set set) (sym (bits k inside)) (frozen_between area k set set (λ b held. held)));
+          (subst (HasBitsBetween area k set set) (sym (bits k inside))
+          (frozen_between area k set set (λ b held. held)));
     }
 
 -- where the data of more blocks is durable, a cut leaves no other block than these
@@ -105,7 +113,12 @@ keeps_more area id least most wider cells within kept = record {
   reserved = kept.reserved;
   blocks = kept.blocks;
   header = kept.header;
-  bits = λ k inside. each_map (HasBitsBetween area k least most) (HasBitsBetween area k least wider) (sector_of_bits area k) cells
-      (λ value between. record { least_set = between.least_set; set_most = λ b below at bit. within b (between.set_most b below at bit) })
+  bits = λ k inside. each_map (HasBitsBetween area k least most) (HasBitsBetween area k least wider)
+      (sector_of_bits area k) cells
+      (λ value between. record {
+        least_set = between.least_set;
+        set_most = λ b below at bit. within b
+            (between.set_most b below at bit);
+      })
       (kept.bits k inside);
 }

@@ -30,17 +30,20 @@ others_left disk o sets cells outcome opens left s below =
     left_by_cut (λ value. value ≡ sector_at s disk) s cells outcome (omega arith) (opens.sectors.others s below) left
 
 -- the header old or the run's
-pub either_header_left : (disk : List (List ℕ)) (o : OpeningState) (sets : Sets) (cells : List Cell) (outcome : List (List ℕ))
+pub either_header_left : (disk : List (List ℕ)) (o : OpeningState) (sets : Sets) (cells : List Cell)
+    (outcome : List (List ℕ))
     → Opens disk o sets cells
     → IsOutcome cells outcome
     → IsEither (sector_at (reserved_of o.area) disk) (header_of o.area o.id) (sector_at (reserved_of o.area) outcome)
 either_header_left disk o sets cells outcome opens left =
     let reserved = opens.sectors.reserved in
-    left_by_cut (IsEither (sector_at (reserved_of o.area) disk) (header_of o.area o.id)) (reserved_of o.area) cells outcome
+    left_by_cut (IsEither (sector_at (reserved_of o.area) disk) (header_of o.area o.id))
+    (reserved_of o.area) cells outcome
     (omega arith) opens.sectors.header left
 
 -- and each sector of the bitmap old or zeros
-pub either_bits_left : (disk : List (List ℕ)) (o : OpeningState) (sets : Sets) (cells : List Cell) (outcome : List (List ℕ))
+pub either_bits_left : (disk : List (List ℕ)) (o : OpeningState) (sets : Sets) (cells : List Cell)
+    (outcome : List (List ℕ))
     → Opens disk o sets cells
     → IsOutcome cells outcome → (k : ℕ) → k < bitmap_sectors_of o.area
     → IsEither (bitmap_sector o.area disk k) zero_bits (bitmap_sector o.area outcome k)
@@ -52,10 +55,12 @@ either_bits_left disk o sets cells outcome opens left k inside =
 -- the header that a cut leaves, where the disk's was the run's
 header_left : (area : Area) (id : ℕ) (disk : List (List ℕ)) (cells : List Cell) (outcome : List (List ℕ))
     → LeavesOldOrNew area id disk cells
-    → HasHeader area id disk → IsOutcome cells outcome → sector_at (reserved_of area) outcome ≡ sector_at (reserved_of area) disk
+    → HasHeader area id disk → IsOutcome cells outcome → sector_at (reserved_of area) outcome ≡ sector_at
+    (reserved_of area) disk
 header_left area id disk cells outcome leaves header left =
     let reserved = leaves.reserved in
-    elim (left_by_cut (IsEither (sector_at (reserved_of area) disk) (header_of area id)) (reserved_of area) cells outcome
+    elim (left_by_cut (IsEither (sector_at (reserved_of area) disk) (header_of area id))
+    (reserved_of area) cells outcome
     (omega arith) leaves.header left) [
       | inl same ↦ same
       | inr new ↦ new ∙ sym header
@@ -64,36 +69,44 @@ header_left area id disk cells outcome leaves header left =
 -- the header that a cut leaves, where it wasn't written
 old_header_left : (area : Area) (id : ℕ) (disk : List (List ℕ)) (cells : List Cell) (outcome : List (List ℕ))
     → LeavesOldOrNew area id disk cells
-    → HasOldHeader area disk cells → IsOutcome cells outcome → sector_at (reserved_of area) outcome ≡ sector_at (reserved_of area) disk
+    → HasOldHeader area disk cells → IsOutcome cells outcome → sector_at (reserved_of area) outcome ≡ sector_at
+    (reserved_of area) disk
 old_header_left area id disk cells outcome leaves header left =
     let reserved = leaves.reserved in
-    left_by_cut (λ value. value ≡ sector_at (reserved_of area) disk) (reserved_of area) cells outcome (omega arith) header left
+    left_by_cut (λ value. value ≡ sector_at (reserved_of area) disk) (reserved_of area) cells outcome
+    (omega arith) header left
 
-bits_left : (area : Area) (id : ℕ) (disk : List (List ℕ)) (cells : List Cell) (outcome : List (List ℕ)) → LeavesOldOrNew area id disk cells
+bits_left : (area : Area) (id : ℕ) (disk : List (List ℕ)) (cells : List Cell) (outcome : List (List ℕ))
+    → LeavesOldOrNew area id disk cells
     → HasOldBits area disk cells → IsOutcome cells outcome
     → (k : ℕ) → k < bitmap_sectors_of area → bitmap_sector area outcome k ≡ bitmap_sector area disk k
 bits_left area id disk cells outcome leaves bits left k inside =
     let reserved = leaves.reserved in
-    left_by_cut (λ value. value ≡ bitmap_sector area disk k) (sector_of_bits area k) cells outcome (omega arith) (bits k inside) left
+    left_by_cut (λ value. value ≡ bitmap_sector area disk k) (sector_of_bits area k) cells outcome
+    (omega arith) (bits k inside) left
 
 -- without the header before and after, no block is stored before and after
-none_left : (area : Area) (id : ℕ) (disk : List (List ℕ)) (cells : List Cell) (outcome : List (List ℕ)) → LeavesOldOrNew area id disk cells
+none_left : (area : Area) (id : ℕ) (disk : List (List ℕ)) (cells : List Cell) (outcome : List (List ℕ))
+    → LeavesOldOrNew area id disk cells
     → ¬ HasHeader area id disk → HasOldHeader area disk cells → IsOutcome cells outcome
     → stored_blocks area id outcome ≡ stored_blocks area id disk
 none_left area id disk cells outcome leaves none header left =
     let same = old_header_left area id disk cells outcome leaves header left in
     none_stored area id outcome (λ yes. none (sym same ∙ yes)) ∙ sym (none_stored area id disk none)
 
-zeros_left : (area : Area) (id : ℕ) (disk : List (List ℕ)) (cells : List Cell) (outcome : List (List ℕ)) → LeavesOldOrNew area id disk cells
+zeros_left : (area : Area) (id : ℕ) (disk : List (List ℕ)) (cells : List Cell) (outcome : List (List ℕ))
+    → LeavesOldOrNew area id disk cells
     → ¬ HasHeader area id disk → HasOnlyZeros area cells → IsOutcome cells outcome
     → stored_blocks area id outcome ≡ stored_blocks area id disk
 zeros_left area id disk cells outcome leaves none zeros left =
     let reserved = leaves.reserved in
     zeros_stored area id outcome
-    (λ k inside. left_by_cut (λ value. value ≡ zero_bits) (sector_of_bits area k) cells outcome (omega arith) (zeros k inside) left)
+    (λ k inside. left_by_cut (λ value. value ≡ zero_bits) (sector_of_bits area k) cells outcome
+    (omega arith) (zeros k inside) left)
     ∙ sym (none_stored area id disk none)
 
-step_cut : (area : Area) (id : ℕ) (disk : List (List ℕ)) (step : OpeningStep) (cells : List Cell) (outcome : List (List ℕ))
+step_cut : (area : Area) (id : ℕ) (disk : List (List ℕ)) (step : OpeningStep) (cells : List Cell)
+    (outcome : List (List ℕ))
     → LeavesOldOrNew area id disk cells → CellsAt area id disk step cells → IsOutcome cells outcome
     → stored_blocks area id outcome ≡ stored_blocks area id disk
 step_cut area id disk ReadHeader cells outcome leaves (header, bits) left =
@@ -106,16 +119,19 @@ step_cut area id disk (WriteZeros k) cells outcome leaves (none, header, zeros) 
     none_left area id disk cells outcome leaves none header left
 step_cut area id disk FlushZeros cells outcome leaves (none, header, zeros) left =
     none_left area id disk cells outcome leaves none header left
-step_cut area id disk WriteHeader cells outcome leaves (none, zeros) left = zeros_left area id disk cells outcome leaves none zeros left
+step_cut area id disk WriteHeader cells outcome leaves (none, zeros) left =
+    zeros_left area id disk cells outcome leaves none zeros left
 step_cut area id disk FlushHeader cells outcome leaves (none, zeros, header) left =
     zeros_left area id disk cells outcome leaves none zeros left
-step_cut area id disk Ended cells outcome leaves kept left = cut_stores_set area id (stored_blocks area id disk) cells outcome kept left
+step_cut area id disk Ended cells outcome leaves kept left = cut_stores_set area id
+    (stored_blocks area id disk) cells outcome kept left
 
 -- a cut in an opening leaves the disk's stored blocks
 pub opening_cut : (disk : List (List ℕ)) (o : OpeningState) (sets : Sets) (cells : List Cell) (outcome : List (List ℕ))
     → Opens disk o sets cells
     → IsOutcome cells outcome → stored_blocks o.area o.id outcome ≡ stored_blocks o.area o.id disk
-opening_cut disk o sets cells outcome opens left = step_cut o.area o.id disk o.step cells outcome opens.sectors opens.step left
+opening_cut disk o sets cells outcome opens left = step_cut o.area o.id disk o.step cells outcome
+    opens.sectors opens.step left
 
 same_map : {X : Type 0} (f g : ℕ → X) (n : ℕ) (d : X) → ((k : ℕ) → k < n → f k ≡ g k)
     → map f (range_with_len 0 n) ≡ map g (range_with_len 0 n)
@@ -124,22 +140,27 @@ same_map f g n d same =
     (λ k inside. get_or-map-range_with_len f 0 n k k d inside (omega arith) ∙ same k inside)
 
 -- and what a guest finds
-pub opening_view : (disk : List (List ℕ)) (o : OpeningState) (sets : Sets) (cells : List Cell) (image outcome : List (List ℕ))
+pub opening_view : (disk : List (List ℕ)) (o : OpeningState) (sets : Sets) (cells : List Cell)
+    (image outcome : List (List ℕ))
     → Opens disk o sets cells
     → IsOutcome cells outcome → guest_view o.area o.id image outcome ≡ guest_view o.area o.id image disk
 opening_view disk o sets cells image outcome opens left =
     let reserved = opens.sectors.reserved in
     let seen : List Bool → List (List ℕ) → ℕ → List ℕ = λ set sectors s. sector_seen o.area set image sectors s in
-    ap (λ set. map (seen set outcome) (range_with_len 0 (reserved_of o.area))) (opening_cut disk o sets cells outcome opens left)
-    ∙ same_map (seen (stored_blocks o.area o.id disk) outcome) (seen (stored_blocks o.area o.id disk) disk) (reserved_of o.area) []
+    ap (λ set. map (seen set outcome) (range_with_len 0 (reserved_of o.area)))
+    (opening_cut disk o sets cells outcome opens left)
+    ∙ same_map (seen (stored_blocks o.area o.id disk) outcome) (seen (stored_blocks o.area o.id disk) disk)
+    (reserved_of o.area) []
     (λ s below.
-    let same = left_by_cut (λ value. value ≡ sector_at s disk) s cells outcome (omega arith) (opens.sectors.others s below) left in
+    let same = left_by_cut (λ value. value ≡ sector_at s disk) s cells outcome (omega arith)
+    (opens.sectors.others s below) left in
     ap (λ value. if is_empty_at o.area (stored_blocks o.area o.id disk) s then sector_at s image else value) same)
 
 -- where no job is next, the bitmap has the disk's stored blocks, and a cut leaves these
 at_end : (area : Area) (id : ℕ) (disk : List (List ℕ)) (step : OpeningStep) (sets : Sets) (cells : List Cell)
     → sets ≡ alike (blocks_at area id disk step) → CellsAt area id disk step cells → job_at area step ≡ None
-    → (sets ≡ alike (stored_blocks area id disk)) × KeepsBits area id (stored_blocks area id disk) (stored_blocks area id disk) cells
+    → (sets ≡ alike (stored_blocks area id disk)) × KeepsBits area id (stored_blocks area id disk)
+    (stored_blocks area id disk) cells
 at_end area id disk ReadHeader sets cells all holds none = absurd (cc)
 at_end area id disk (ReadBits k) sets cells all holds none = absurd (cc)
 at_end area id disk (WriteZeros k) sets cells all holds none = absurd (cc)
@@ -149,11 +170,13 @@ at_end area id disk FlushHeader sets cells all holds none = absurd (cc)
 at_end area id disk Ended sets cells all holds none = (all, holds)
 
 -- the bitmap's stored blocks are those of the drive's sectors, which a cut may leave as they are
-pub ended_stored : (disk : List (List ℕ)) (o : OpeningState) (sets : Sets) (cells : List Cell) → IsOutcome cells (map current cells)
+pub ended_stored : (disk : List (List ℕ)) (o : OpeningState) (sets : Sets) (cells : List Cell)
+    → IsOutcome cells (map current cells)
     → Opens disk o sets cells → next_in_opening o ≡ None → sets.stored ≡ stored_blocks o.area o.id (map current cells)
 ended_stored disk o sets cells left opens none =
     let (all, kept) = at_end o.area o.id disk o.step sets cells opens.bitmap opens.step none in
-    ap (λ s. s.stored) all ∙ sym (cut_stores_set o.area o.id (stored_blocks o.area o.id disk) cells (map current cells) kept left)
+    ap (λ s. s.stored) all ∙ sym (cut_stores_set o.area o.id (stored_blocks o.area o.id disk) cells
+    (map current cells) kept left)
 
 -- and so are the filled ones
 pub ended_filled : (disk : List (List ℕ)) (o : OpeningState) (sets : Sets) (cells : List Cell)

@@ -33,8 +33,10 @@ leaves_forgets : (area : Area) (id : ℕ) (disk : List (List ℕ)) (old new : Li
 leaves_forgets area id disk old new forgets leaves = record {
   reserved = leaves.reserved ∙ sym forgets.cells;
   others = λ s below. each_forgets (λ value. value ≡ sector_at s disk) s old new forgets (leaves.others s below);
-  header = each_forgets (IsEither (sector_at (reserved_of area) disk) (header_of area id)) (reserved_of area) old new forgets leaves.header;
-  bits = λ k inside. each_forgets (IsEither (bitmap_sector area disk k) zero_bits) (sector_of_bits area k) old new forgets
+  header = each_forgets (IsEither (sector_at (reserved_of area) disk) (header_of area id))
+      (reserved_of area) old new forgets leaves.header;
+  bits = λ k inside. each_forgets (IsEither (bitmap_sector area disk k) zero_bits)
+      (sector_of_bits area k) old new forgets
       (leaves.bits k inside);
 }
 
@@ -51,7 +53,8 @@ leaves_zeros area id disk k cells leaves = record {
 }
 
 leaves_header : (area : Area) (id : ℕ) (disk : List (List ℕ)) (cells : List Cell)
-    → LeavesOldOrNew area id disk cells → LeavesOldOrNew area id disk (appended (reserved_of area) (header_of area id) cells)
+    → LeavesOldOrNew area id disk cells → LeavesOldOrNew area id disk
+    (appended (reserved_of area) (header_of area id) cells)
 leaves_header area id disk cells leaves = record {
   reserved = leaves.reserved ∙ sym (length-appended (reserved_of area) (header_of area id) cells);
   others = λ s below. each_written (λ value. value ≡ sector_at s disk) (reserved_of area) s (header_of area id) cells
@@ -72,23 +75,31 @@ old_header_forgets : (area : Area) (disk : List (List ℕ)) (old new : List Cell
 old_header_forgets area disk old new forgets header =
     each_forgets (λ value. value ≡ sector_at (reserved_of area) disk) (reserved_of area) old new forgets header
 
-only_zeros_forget : (area : Area) (old new : List Cell) → ForgetsOld old new → HasOnlyZeros area old → HasOnlyZeros area new
+only_zeros_forget : (area : Area) (old new : List Cell) → ForgetsOld old new → HasOnlyZeros area old
+    → HasOnlyZeros area new
 only_zeros_forget area old new forgets zeros k inside =
     each_forgets (λ value. value ≡ zero_bits) (sector_of_bits area k) old new forgets (zeros k inside)
 
-cells_forget : (area : Area) (id : ℕ) (disk : List (List ℕ)) (step : OpeningStep) (old new : List Cell) → ForgetsOld old new
+cells_forget : (area : Area) (id : ℕ) (disk : List (List ℕ)) (step : OpeningStep) (old new : List Cell)
+    → ForgetsOld old new
     → CellsAt area id disk step old → CellsAt area id disk step new
 cells_forget area id disk ReadHeader old new forgets (header, bits) =
     (old_header_forgets area disk old new forgets header, old_bits_forget area disk old new forgets bits)
-cells_forget area id disk (ReadBits k) old new forgets (header, bits) = (header, old_bits_forget area disk old new forgets bits)
-cells_forget area id disk (WriteZeros k) old new forgets (none, header, zeros) =
-    (none, old_header_forgets area disk old new forgets header, bits_forget k (λ i. zero_bits) area old new forgets zeros)
+cells_forget area id disk (ReadBits k) old new forgets (header, bits) =
+    (header, old_bits_forget area disk old new forgets bits)
+cells_forget area id disk (WriteZeros k) old new forgets (none, header, zeros) = (
+  none,
+  old_header_forgets area disk old new forgets header,
+  bits_forget k (λ i. zero_bits) area
+      old new forgets zeros,
+)
 cells_forget area id disk FlushZeros old new forgets (none, header, zeros) = (
   none,
   old_header_forgets area disk old new forgets header,
   bits_forget (bitmap_sectors_of area) (λ i. zero_bits) area old new forgets zeros,
 )
-cells_forget area id disk WriteHeader old new forgets (none, zeros) = (none, only_zeros_forget area old new forgets zeros)
+cells_forget area id disk WriteHeader old new forgets (none, zeros) =
+    (none, only_zeros_forget area old new forgets zeros)
 cells_forget area id disk FlushHeader old new forgets (none, zeros, header) =
     (none, only_zeros_forget area old new forgets zeros, forgets.newest (reserved_of area) ∙ header)
 cells_forget area id disk Ended old new forgets kept =
@@ -109,9 +120,11 @@ disk_bits : (area : Area) (id : ℕ) (disk : List (List ℕ)) (k : ℕ) (value :
 disk_bits area id disk k value header same = record {
   least_set = λ b at held.
       let inside = stored_inside area id disk b held in
-      ap (λ bytes. has_bit bytes b) (same ∙ ap (bitmap_sector area disk) (sym at)) ∙ sym (stored_block area id disk b header inside) ∙ held;
+      ap (λ bytes. has_bit bytes b) (same ∙ ap (bitmap_sector area disk) (sym at))
+      ∙ sym (stored_block area id disk b header inside) ∙ held;
   set_most = λ b inside at set.
-      stored_block area id disk b header inside ∙ ap (λ bytes. has_bit bytes b) (ap (bitmap_sector area disk) at ∙ sym same) ∙ set;
+      stored_block area id disk b header inside ∙ ap (λ bytes. has_bit bytes b)
+      (ap (bitmap_sector area disk) at ∙ sym same) ∙ set;
 }
 
 zero_between : (area : Area) (k : ℕ) (value : List ℕ) → value ≡ zero_bits
@@ -129,7 +142,8 @@ keeps_old : (area : Area) (id : ℕ) (disk : List (List ℕ)) (cells : List Cell
 keeps_old area id disk cells leaves header bits = record {
   reserved = leaves.reserved;
   blocks = length-stored_blocks area id disk;
-  header = each_map (IsEither (sector_at (reserved_of area) disk) (header_of area id)) (λ value. value ≡ header_of area id)
+  header = each_map (IsEither (sector_at (reserved_of area) disk) (header_of area id))
+      (λ value. value ≡ header_of area id)
       (reserved_of area) cells
       (λ value either. elim either [ inl e ↦ e ∙ header | inr e ↦ e ]) leaves.header;
   bits = λ k inside. each_map (λ value. value ≡ bitmap_sector area disk k)
@@ -145,7 +159,8 @@ keeps_empty area id disk cells leaves zeros header = record {
   reserved = leaves.reserved;
   blocks = length-replicate (blocks_of area) false;
   header = header;
-  bits = λ k inside. each_map (λ value. value ≡ zero_bits) (HasBitsBetween area k (empty_set (blocks_of area)) (empty_set (blocks_of area)))
+  bits = λ k inside. each_map (λ value. value ≡ zero_bits)
+      (HasBitsBetween area k (empty_set (blocks_of area)) (empty_set (blocks_of area)))
       (sector_of_bits area k) cells (λ value same. zero_between area k value same) (zeros k inside);
 }
 
@@ -154,29 +169,36 @@ abbrev Stands : Area → ℕ → List (List ℕ) → Sets → List Cell → Open
 Stands area id disk sets cells step =
     (sets ≡ alike (blocks_at area id disk step)) × LeavesOldOrNew area id disk cells × CellsAt area id disk step cells
 
-reads_on : (area : Area) (id : ℕ) (disk : List (List ℕ)) (k : ℕ) (sets : Sets) (cells : List Cell) → LeavesOldOrNew area id disk cells
-    → sets ≡ alike (with_sectors k area disk (empty_set (blocks_of area))) → HasHeader area id disk → HasOldBits area disk cells
+reads_on : (area : Area) (id : ℕ) (disk : List (List ℕ)) (k : ℕ) (sets : Sets) (cells : List Cell)
+    → LeavesOldOrNew area id disk cells
+    → sets ≡ alike (with_sectors k area disk (empty_set (blocks_of area))) → HasHeader area id disk
+    → HasOldBits area disk cells
     → Stands area id disk sets cells (read_from area k)
 reads_on area id disk k sets cells leaves so_far header bits =
     on_test (Stands area id disk sets cells) k (bitmap_sectors_of area) Ended (ReadBits k)
     (λ all. (
-      so_far ∙ ap alike (ap (λ n. with_sectors n area disk (empty_set (blocks_of area))) all ∙ added_all area id disk header),
+      so_far ∙ ap alike (ap (λ n. with_sectors n area disk (empty_set (blocks_of area))) all
+          ∙ added_all area id disk header),
       leaves,
       keeps_old area id disk cells leaves header bits,
     ))
     (so_far, leaves, (header, bits))
 
-zeros_on : (area : Area) (id : ℕ) (disk : List (List ℕ)) (k : ℕ) (sets : Sets) (cells : List Cell) → LeavesOldOrNew area id disk cells
-    → sets ≡ alike (empty_set (blocks_of area)) → ¬ HasHeader area id disk → HasOldHeader area disk cells → HasZeros k area cells
+zeros_on : (area : Area) (id : ℕ) (disk : List (List ℕ)) (k : ℕ) (sets : Sets) (cells : List Cell)
+    → LeavesOldOrNew area id disk cells
+    → sets ≡ alike (empty_set (blocks_of area)) → ¬ HasHeader area id disk → HasOldHeader area disk cells
+    → HasZeros k area cells
     → Stands area id disk sets cells (zeros_from area k)
 zeros_on area id disk k sets cells leaves empty none header zeros =
     on_test (Stands area id disk sets cells) k (bitmap_sectors_of area) FlushZeros (WriteZeros k)
-    (λ all. (empty, leaves, (none, header, subst (λ n. HasZeros n area cells) all zeros))) (empty, leaves, (none, header, zeros))
+    (λ all. (empty, leaves, (none, header, subst (λ n. HasZeros n area cells) all zeros)))
+    (empty, leaves, (none, header, zeros))
 
 header_stays : (area : Area) (disk : List (List ℕ)) (k : ℕ) (cells : List Cell) → HasOldHeader area disk cells
     → HasOldHeader area disk (appended (sector_of_bits area k) zero_bits cells)
 header_stays area disk k cells header =
-    each_written (λ value. value ≡ sector_at (reserved_of area) disk) (sector_of_bits area k) (reserved_of area) zero_bits cells
+    each_written (λ value. value ≡ sector_at (reserved_of area) disk) (sector_of_bits area k)
+    (reserved_of area) zero_bits cells
     (λ e. absurd (omega arith)) header
 
 only_zeros_stay : (area : Area) (id : ℕ) (cells : List Cell) → HasOnlyZeros area cells
@@ -188,26 +210,31 @@ only_zeros_stay area id cells zeros k inside =
 -- behind the header that was read
 header_was_read : (area : Area) (id : ℕ) (disk : List (List ℕ)) (bytes : List ℕ) (sets : Sets) (cells : List Cell)
     → LeavesOldOrNew area id disk cells
-    → bytes ≡ sector_at (reserved_of area) disk → sets ≡ alike (empty_set (blocks_of area)) → HasOldHeader area disk cells
+    → bytes ≡ sector_at (reserved_of area) disk → sets ≡ alike (empty_set (blocks_of area))
+    → HasOldHeader area disk cells
     → HasOldBits area disk cells
     → (test : Bool) → bytes_eq bytes (header_of area id) ≡ test
     → Stands area id disk sets cells (if test then read_from area 0 else zeros_from area 0)
 header_was_read area id disk bytes sets cells leaves read empty header bits true test =
-    reads_on area id disk 0 sets cells leaves empty (sym read ∙ (bytes_eq-Decides bytes (header_of area id)).0 test) bits
+    reads_on area id disk 0 sets cells leaves empty (sym read ∙ (bytes_eq-Decides bytes (header_of area id)).0 test)
+    bits
 header_was_read area id disk bytes sets cells leaves read empty header bits false test =
     let other : ¬ HasHeader area id disk =
     λ same. let yes = (bytes_eq-Decides bytes (header_of area id)).1 (read ∙ same) in absurd (cc) in
     zeros_on area id disk 0 sets cells leaves empty other header (λ j below. absurd (omega arith))
 
 -- what a step that was done leaves
-step_done : (area : Area) (id : ℕ) (disk : List (List ℕ)) (step : OpeningStep) (bytes : List ℕ) (sets : Sets) (old new : List Cell)
-    → IsReached area step → sets ≡ alike (blocks_at area id disk step) → LeavesOldOrNew area id disk old → CellsAt area id disk step old
+step_done : (area : Area) (id : ℕ) (disk : List (List ℕ)) (step : OpeningStep) (bytes : List ℕ)
+    (sets : Sets) (old new : List Cell)
+    → IsReached area step → sets ≡ alike (blocks_at area id disk step) → LeavesOldOrNew area id disk old
+    → CellsAt area id disk step old
     → MadeBy true (job_at area step) (unwrap_or (bytes_at area id step) bytes) old new
     → Stands area id disk (sets_behind bytes step sets) new (step_after area id bytes step)
 step_done area id disk ReadHeader bytes sets old new reached empty leaves (header, bits) (read, same) =
     let value : bytes ≡ sector_at (reserved_of area) disk =
     read ∙ newest (λ value. value ≡ sector_at (reserved_of area) disk) (reserved_of area) old header in
-    rw same (header_was_read area id disk bytes sets old leaves value empty header bits (bytes_eq bytes (header_of area id)) refl)
+    rw same (header_was_read area id disk bytes sets old leaves value empty header bits
+    (bytes_eq bytes (header_of area id)) refl)
 step_done area id disk (ReadBits k) bytes sets old new reached so_far leaves (header, bits) (read, same) =
     let value : bytes ≡ bitmap_sector area disk k =
     read ∙ newest (λ value. value ≡ bitmap_sector area disk k) (sector_of_bits area k) old (bits k reached) in
@@ -217,7 +244,8 @@ step_done area id disk (ReadBits k) bytes sets old new reached so_far leaves (he
     rw (same, add-one) (reads_on area id disk (suc k) (loaded k bytes sets) old leaves more header bits)
 step_done area id disk (WriteZeros k) bytes sets old new reached empty leaves (none, header, zeros) made =
     let reserved = leaves.reserved in
-    rw made (zeros_on area id disk (k + 1) sets (appended (sector_of_bits area k) zero_bits old) (leaves_zeros area id disk k old leaves)
+    rw made (zeros_on area id disk (k + 1) sets (appended (sector_of_bits area k) zero_bits old)
+    (leaves_zeros area id disk k old leaves)
     empty none (header_stays area disk k old header) (one_more k (λ i. zero_bits) area old (omega arith) zeros))
 step_done area id disk FlushZeros bytes sets old new reached empty leaves (none, header, zeros) made =
     rw made (
@@ -230,7 +258,12 @@ step_done area id disk WriteHeader bytes sets old new reached empty leaves (none
     rw made (
       empty,
       leaves_header area id disk old leaves,
-      (none, only_zeros_stay area id old zeros, appended-current (reserved_of area) (header_of area id) old (omega arith)),
+      (
+        none,
+        only_zeros_stay area id old zeros,
+        appended-current (reserved_of area) (header_of area id) old
+            (omega arith),
+      ),
     )
 step_done area id disk FlushHeader bytes sets old new reached empty leaves (none, zeros, header) made =
     let left = leaves_forgets area id disk old (all_flushed old) (flush_forgets old) leaves in
@@ -239,7 +272,8 @@ step_done area id disk FlushHeader bytes sets old new reached empty leaves (none
       empty ∙ ap alike (sym stored),
       left,
       subst (λ set. KeepsBits area id set set (all_flushed old)) (sym stored)
-          (keeps_empty area id disk (all_flushed old) left (only_zeros_forget area old (all_flushed old) (flush_forgets old) zeros)
+          (keeps_empty area id disk (all_flushed old) left
+          (only_zeros_forget area old (all_flushed old) (flush_forgets old) zeros)
           (each_flushed (λ value. value ≡ header_of area id) (reserved_of area) old header)),
     )
 step_done area id disk Ended bytes sets old new reached all leaves kept made = rw made (all, leaves, kept)
@@ -286,27 +320,33 @@ step_failed area id disk step (Some job) bytes old new next leaves holds (inr do
     (subst (λ it. MadeBy true it (unwrap_or (bytes_at area id step) bytes) old new) (sym next) done)
 
 -- an opening stands while its job is in hand
-pub opens_in_hand : (disk : List (List ℕ)) (o : OpeningState) (bytes : List ℕ) (sets : Sets) (old new : List Cell) → Opens disk o sets old
+pub opens_in_hand : (disk : List (List ℕ)) (o : OpeningState) (bytes : List ℕ) (sets : Sets) (old new : List Cell)
+    → Opens disk o sets old
     → MadeBy false (next_in_opening o) (unwrap_or (bytes_to_open o) bytes) old new → Opens disk o sets new
 opens_in_hand disk o bytes sets old new opens made =
-    let left = step_failed o.area o.id disk o.step (next_in_opening o) bytes old new refl opens.sectors opens.step made in
+    let left = step_failed o.area o.id disk o.step (next_in_opening o) bytes old new refl opens.sectors
+    opens.step made in
     record { bitmap = opens.bitmap; sectors = left.0; step = left.1 }
 
 -- an opening goes on where its job ended, well or not
-pub opens_after : (ok : Bool) (disk : List (List ℕ)) (o : OpeningState) (bytes : List ℕ) (sets : Sets) (old new : List Cell)
+pub opens_after : (ok : Bool) (disk : List (List ℕ)) (o : OpeningState) (bytes : List ℕ) (sets : Sets)
+    (old new : List Cell)
     → IsReached o.area o.step → Opens disk o sets old
     → MadeBy ok (next_in_opening o) (unwrap_or (bytes_to_open o) bytes) old new
     → Opens disk (opening_after ok bytes o) (sets_after_opening ok bytes o sets) new
 opens_after false disk o bytes sets old new reached opens made = opens_in_hand disk o bytes sets old new opens made
 opens_after true disk o bytes sets old new reached opens made =
-    let left = step_done o.area o.id disk o.step bytes sets old new reached opens.bitmap opens.sectors opens.step made in
+    let left = step_done o.area o.id disk o.step bytes sets old new reached opens.bitmap opens.sectors
+    opens.step made in
     record { bitmap = left.0; sectors = left.1; step = left.2 }
 
-room_for_reserved : (area : Area) → IsSuitable area → 0 < area.image → reserved_of area + (bitmap_sectors_of area + 2) ≡ area.sectors
+room_for_reserved : (area : Area) → IsSuitable area → 0 < area.image
+    → reserved_of area + (bitmap_sectors_of area + 2) ≡ area.sectors
 room_for_reserved area suitable some = grind arith
 
 -- an opening at power-on
-pub opens_at_power_on : (area : Area) (id : ℕ) (disk : List (List ℕ)) → IsSuitable area → 0 < area.image → length disk ≡ area.sectors
+pub opens_at_power_on : (area : Area) (id : ℕ) (disk : List (List ℕ)) → IsSuitable area → 0 < area.image
+    → length disk ≡ area.sectors
     → Opens disk (opening_of area id) (empty_sets (blocks_of area)) (stored disk)
 opens_at_power_on area id disk suitable some long =
     let reserved = room_for_reserved area suitable some in
@@ -324,20 +364,23 @@ opens_at_power_on area id disk suitable some long =
       };
       step = subst (λ step. CellsAt area id disk step (stored disk)) (sym begins) (
         at_power_on (λ value. value ≡ sector_at (reserved_of area) disk) (reserved_of area) disk (omega arith) refl,
-        λ k inside. at_power_on (λ value. value ≡ bitmap_sector area disk k) (sector_of_bits area k) disk (omega arith) refl,
+        λ k inside. at_power_on (λ value. value ≡ bitmap_sector area disk k) (sector_of_bits area k) disk
+            (omega arith) refl,
       );
     }
 
 -- the same of the states before and after, as they are called
 pub opens_ended : (ok : Bool) (disk : List (List ℕ)) (o after : OpeningState) (buffer : List ℕ)
     (sets sets_after : Sets) (old new : List Cell)
-    → IsReached o.area o.step → after ≡ opening_after ok (take 512 buffer) o → sets_after ≡ sets_after_opening ok (take 512 buffer) o sets
+    → IsReached o.area o.step → after ≡ opening_after ok (take 512 buffer) o
+    → sets_after ≡ sets_after_opening ok (take 512 buffer) o sets
     → Opens disk o sets old → MadeByOpening ok o buffer old new → Opens disk after sets_after new
 opens_ended ok disk o after buffer sets sets_after old new reached state bitmap opens made =
     rw (state, bitmap) (opens_after ok disk o (take 512 buffer) sets old new reached opens made)
 
 header_written : (area : Area) (id : ℕ) (disk : List (List ℕ)) (step : OpeningStep) (cells : List Cell) (count : ℕ)
-    → CellsAt area id disk step cells → job_at area step ≡ Some (Write (reserved_of area) count) → HasOnlyZeros area cells
+    → CellsAt area id disk step cells → job_at area step ≡ Some (Write (reserved_of area) count)
+    → HasOnlyZeros area cells
 header_written area id disk ReadHeader cells count holds next = absurd (cc)
 header_written area id disk (ReadBits k) cells count holds next = absurd (cc)
 header_written area id disk (WriteZeros k) cells count holds next =
@@ -348,6 +391,7 @@ header_written area id disk FlushHeader cells count holds next = absurd (cc)
 header_written area id disk Ended cells count holds next = absurd (cc)
 
 -- the header is written behind durable zeros
-pub opens_header : (disk : List (List ℕ)) (o : OpeningState) (sets : Sets) (cells : List Cell) (count : ℕ) → Opens disk o sets cells
+pub opens_header : (disk : List (List ℕ)) (o : OpeningState) (sets : Sets) (cells : List Cell) (count : ℕ)
+    → Opens disk o sets cells
     → next_in_opening o ≡ Some (Write (reserved_of o.area) count) → HasOnlyZeros o.area cells
 opens_header disk o sets cells count opens next = header_written o.area o.id disk o.step cells count opens.step next

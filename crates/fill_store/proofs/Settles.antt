@@ -19,7 +19,8 @@ use Rattle.fill_store.proofs.Values.{flush_forgets, on_test}
 use Rattle.fill_store.proofs.Keeps.{bits_forget, bits_elsewhere, bits_stand, one_more, keeps_forgets, keeps_elsewhere, keeps_written, keeps_frozen, keeps_more}
 
 -- a settling stands where older values were forgotten
-holds_forgets : (area : Area) (durable : List Bool) (step : SettleStep) (sets : Sets) (old new : List Cell) → ForgetsOld old new
+holds_forgets : (area : Area) (durable : List Bool) (step : SettleStep) (sets : Sets) (old new : List Cell)
+    → ForgetsOld old new
     → HoldsAt area durable step sets old → HoldsAt area durable step sets new
 holds_forgets area durable FlushData sets old new forgets within = within
 holds_forgets area durable (WriteBits k) sets old new forgets (all, bits) =
@@ -28,7 +29,8 @@ holds_forgets area durable FlushBits sets old new forgets (all, bits) =
     (all, bits_forget (bitmap_sectors_of area) (λ i. sector_of i sets.frozen) area old new forgets bits)
 holds_forgets area durable Ended sets old new forgets within = within
 
-pub settles_forgets : (id : ℕ) (durable : List Bool) (s : SettleState) (sets : Sets) (old new : List Cell) → ForgetsOld old new
+pub settles_forgets : (id : ℕ) (durable : List Bool) (s : SettleState) (sets : Sets) (old new : List Cell)
+    → ForgetsOld old new
     → Settles id durable s sets old → Settles id durable s sets new
 settles_forgets id durable s sets old new forgets settles = record {
   nested = settles.nested;
@@ -38,8 +40,10 @@ settles_forgets id durable s sets old new forgets settles = record {
 }
 
 -- a settling stands where a sector elsewhere is written
-holds_elsewhere : (area : Area) (durable : List Bool) (step : SettleStep) (sets : Sets) (sector : ℕ) (bytes : List ℕ) (cells : List Cell)
-    → sector < reserved_of area → HoldsAt area durable step sets cells → HoldsAt area durable step sets (appended sector bytes cells)
+holds_elsewhere : (area : Area) (durable : List Bool) (step : SettleStep) (sets : Sets) (sector : ℕ)
+    (bytes : List ℕ) (cells : List Cell)
+    → sector < reserved_of area → HoldsAt area durable step sets cells
+    → HoldsAt area durable step sets (appended sector bytes cells)
 holds_elsewhere area durable FlushData sets sector bytes cells elsewhere within = within
 holds_elsewhere area durable (WriteBits k) sets sector bytes cells elsewhere (all, bits) =
     (all, bits_elsewhere k (λ i. sector_of i sets.frozen) area sector bytes cells elsewhere bits)
@@ -47,8 +51,10 @@ holds_elsewhere area durable FlushBits sets sector bytes cells elsewhere (all, b
     (all, bits_elsewhere (bitmap_sectors_of area) (λ i. sector_of i sets.frozen) area sector bytes cells elsewhere bits)
 holds_elsewhere area durable Ended sets sector bytes cells elsewhere within = within
 
-pub settles_elsewhere : (id : ℕ) (durable : List Bool) (s : SettleState) (sets : Sets) (sector : ℕ) (bytes : List ℕ) (cells : List Cell)
-    → Settles id durable s sets cells → sector < reserved_of s.area → Settles id durable s sets (appended sector bytes cells)
+pub settles_elsewhere : (id : ℕ) (durable : List Bool) (s : SettleState) (sets : Sets) (sector : ℕ)
+    (bytes : List ℕ) (cells : List Cell)
+    → Settles id durable s sets cells → sector < reserved_of s.area
+    → Settles id durable s sets (appended sector bytes cells)
 settles_elsewhere id durable s sets sector bytes cells settles elsewhere = record {
   nested = settles.nested;
   blocks = settles.blocks;
@@ -78,7 +84,8 @@ kept_frozen : (area : Area) (id : ℕ) (durable : List Bool) (sets : Sets) (cell
 kept_frozen area id durable sets cells all kept = subst (λ most. KeepsBits area id sets.stored most cells) all kept
 
 -- a settling at a step that was done
-step_done : (id : ℕ) (area : Area) (durable : List Bool) (step : SettleStep) (bytes : List ℕ) (sets : Sets) (old new : List Cell)
+step_done : (id : ℕ) (area : Area) (durable : List Bool) (step : SettleStep) (bytes : List ℕ) (sets : Sets)
+    (old new : List Cell)
     → IsReached (bitmap_sectors_of area) step → IsNested sets → blocks_in sets ≡ blocks_of area
     → KeepsBits area id sets.stored durable old → HoldsAt area durable step sets old
     → MadeBy true (job_at area step) (unwrap_or (bytes_at step sets) bytes) old new
@@ -93,8 +100,10 @@ step_done id area durable FlushData bytes sets old new reached nested blocks kep
 step_done id area durable (WriteBits k) bytes sets old new reached nested blocks kept (all, bits) made =
     let reserved = kept.reserved in
     rw made (
-      subst (λ most. KeepsBits area id sets.stored most (appended (sector_of_bits area k) (sector_of k sets.frozen) old)) (sym all)
-          (keeps_written area id sets.stored sets.frozen k old nested.stored_frozen (kept_frozen area id durable sets old all kept)),
+      subst (λ most. KeepsBits area id sets.stored most
+          (appended (sector_of_bits area k) (sector_of k sets.frozen) old)) (sym all)
+          (keeps_written area id sets.stored sets.frozen k old nested.stored_frozen
+          (kept_frozen area id durable sets old all kept)),
       bits_on area durable (k + 1) sets (appended (sector_of_bits area k) (sector_of k sets.frozen) old) all
           (one_more k (λ i. sector_of i sets.frozen) area old (omega arith) bits),
     )
@@ -107,7 +116,8 @@ step_done id area durable FlushBits bytes sets old new reached nested blocks kep
 step_done id area durable Ended bytes sets old new reached nested blocks kept within made = rw made (kept, within)
 
 -- a job in hand, made or not
-step_in_hand : (id : ℕ) (area : Area) (durable : List Bool) (step : SettleStep) (bytes : List ℕ) (sets : Sets) (old new : List Cell)
+step_in_hand : (id : ℕ) (area : Area) (durable : List Bool) (step : SettleStep) (bytes : List ℕ)
+    (sets : Sets) (old new : List Cell)
     → IsNested sets → KeepsBits area id sets.stored durable old → HoldsAt area durable step sets old
     → MadeBy true (job_at area step) (unwrap_or (bytes_at step sets) bytes) old new
     → KeepsBits area id sets.stored durable new × HoldsAt area durable step sets new
@@ -115,8 +125,10 @@ step_in_hand id area durable FlushData bytes sets old new nested kept within mad
     rw made (keeps_forgets area id sets.stored durable old (all_flushed old) (flush_forgets old) kept, within)
 step_in_hand id area durable (WriteBits k) bytes sets old new nested kept (all, bits) made =
     rw made (
-      subst (λ most. KeepsBits area id sets.stored most (appended (sector_of_bits area k) (sector_of k sets.frozen) old)) (sym all)
-          (keeps_written area id sets.stored sets.frozen k old nested.stored_frozen (kept_frozen area id durable sets old all kept)),
+      subst (λ most. KeepsBits area id sets.stored most
+          (appended (sector_of_bits area k) (sector_of k sets.frozen) old)) (sym all)
+          (keeps_written area id sets.stored sets.frozen k old nested.stored_frozen
+          (kept_frozen area id durable sets old all kept)),
       (all, bits_stand k (λ i. sector_of i sets.frozen) area old bits),
     )
 step_in_hand id area durable FlushBits bytes sets old new nested kept holds made =
@@ -128,7 +140,8 @@ step_in_hand id area durable Ended bytes sets old new nested kept within made = 
 
 step_failed : (id : ℕ) (area : Area) (durable : List Bool) (step : SettleStep) (job : Option OwnJob)
     (bytes : List ℕ) (sets : Sets) (old new : List Cell)
-    → job_at area step ≡ job → IsNested sets → KeepsBits area id sets.stored durable old → HoldsAt area durable step sets old
+    → job_at area step ≡ job → IsNested sets → KeepsBits area id sets.stored durable old
+    → HoldsAt area durable step sets old
     → MadeBy false job (unwrap_or (bytes_at step sets) bytes) old new
     → KeepsBits area id sets.stored durable new × HoldsAt area durable step sets new
 step_failed id area durable step None bytes sets old new next nested kept holds made = rw made (kept, holds)
@@ -138,9 +151,11 @@ step_failed id area durable step (Some job) bytes sets old new next nested kept 
     (subst (λ it. MadeBy true it (unwrap_or (bytes_at step sets) bytes) old new) (sym next) done)
 
 -- a settling stands while its job is in hand
-pub settles_in_hand : (id : ℕ) (durable : List Bool) (s : SettleState) (bytes : List ℕ) (sets : Sets) (old new : List Cell)
+pub settles_in_hand : (id : ℕ) (durable : List Bool) (s : SettleState) (bytes : List ℕ) (sets : Sets)
+    (old new : List Cell)
     → Settles id durable s sets old
-    → MadeBy false (next_in_settling s) (unwrap_or (bytes_to_settle s sets) bytes) old new → Settles id durable s sets new
+    → MadeBy false (next_in_settling s) (unwrap_or (bytes_to_settle s sets) bytes) old new
+    → Settles id durable s sets new
 settles_in_hand id durable s bytes sets old new settles made =
     let left = step_failed id s.area durable s.step (next_in_settling s) bytes sets old new refl
     settles.nested settles.kept settles.step made in
@@ -151,8 +166,10 @@ within_frozen : (area : Area) (durable : List Bool) (step : SettleStep) (sets : 
     → HoldsAt area durable step sets cells
     → IsWithin durable sets.frozen
 within_frozen area durable FlushData sets cells within = within
-within_frozen area durable (WriteBits k) sets cells (all, bits) = subst (λ set. IsWithin set sets.frozen) (sym all) (λ b held. held)
-within_frozen area durable FlushBits sets cells (all, bits) = subst (λ set. IsWithin set sets.frozen) (sym all) (λ b held. held)
+within_frozen area durable (WriteBits k) sets cells (all, bits) = subst (λ set. IsWithin set sets.frozen)
+    (sym all) (λ b held. held)
+within_frozen area durable FlushBits sets cells (all, bits) = subst (λ set. IsWithin set sets.frozen)
+    (sym all) (λ b held. held)
 within_frozen area durable Ended sets cells within = within
 
 behind_nested : (step : SettleStep) (sets : Sets) → IsNested sets → IsNested (sets_behind step sets)
@@ -168,12 +185,14 @@ behind_blocks FlushBits sets = refl
 behind_blocks Ended sets = refl
 
 -- a settling goes on, or ends, where its job ended
-pub settles_after : (ok : Bool) (id : ℕ) (durable : List Bool) (s : SettleState) (bytes : List ℕ) (sets : Sets) (old new : List Cell)
+pub settles_after : (ok : Bool) (id : ℕ) (durable : List Bool) (s : SettleState) (bytes : List ℕ)
+    (sets : Sets) (old new : List Cell)
     → IsReached (bitmap_sectors_of s.area) s.step → Settles id durable s sets old
     → MadeBy ok (next_in_settling s) (unwrap_or (bytes_to_settle s sets) bytes) old new
     → Settles id (durable_after ok s sets durable) (settle_after ok s) (sets_after_settling ok s sets) new
 settles_after true id durable s bytes sets old new reached settles made =
-    let left = step_done id s.area durable s.step bytes sets old new reached settles.nested settles.blocks settles.kept settles.step made in
+    let left = step_done id s.area durable s.step bytes sets old new reached settles.nested settles.blocks
+    settles.kept settles.step made in
     record {
       nested = behind_nested s.step sets settles.nested;
       blocks = behind_blocks s.step sets ∙ settles.blocks;
@@ -183,7 +202,13 @@ settles_after true id durable s bytes sets old new reached settles made =
 settles_after false id durable s bytes sets old new reached settles made =
     let left = step_failed id s.area durable s.step (next_in_settling s) bytes sets old new refl
     settles.nested settles.kept settles.step made in
-    record { nested = settles.nested; blocks = settles.blocks; kept = left.0; step = within_frozen s.area durable s.step sets new left.1 }
+    record {
+      nested = settles.nested;
+      blocks = settles.blocks;
+      kept = left.0;
+      step =
+          within_frozen s.area durable s.step sets new left.1;
+    }
 
 -- a settling begins with the blocks that are filled
 pub settles_at_first : (area : Area) (id : ℕ) (durable : List Bool) (sets : Sets) (cells : List Cell)
@@ -203,14 +228,17 @@ settles_at_first area id durable sets cells nested blocks within kept = record {
 }
 
 -- the same of the states before and after, as they are called
-pub settles_ended : (ok : Bool) (id : ℕ) (durable : List Bool) (s after : SettleState) (sets sets_after : Sets) (old new : List Cell)
-    → IsReached (bitmap_sectors_of s.area) s.step → after ≡ settle_after ok s → sets_after ≡ sets_after_settling ok s sets
+pub settles_ended : (ok : Bool) (id : ℕ) (durable : List Bool) (s after : SettleState) (sets sets_after : Sets)
+    (old new : List Cell)
+    → IsReached (bitmap_sectors_of s.area) s.step → after ≡ settle_after ok s
+    → sets_after ≡ sets_after_settling ok s sets
     → Settles id durable s sets old → MadeBySettling ok s sets old new
     → Settles id (durable_after ok s sets durable) after sets_after new
 settles_ended ok id durable s after sets sets_after old new reached state bitmap settles made =
     rw (state, bitmap) (settles_after ok id durable s [] sets old new reached settles made)
 
-bits_written : (area : Area) (durable : List Bool) (step : SettleStep) (sets : Sets) (cells : List Cell) (sector count : ℕ)
+bits_written : (area : Area) (durable : List Bool) (step : SettleStep) (sets : Sets) (cells : List Cell)
+    (sector count : ℕ)
     → HoldsAt area durable step sets cells → job_at area step ≡ Some (Write sector count) → durable ≡ sets.frozen
 bits_written area durable FlushData sets cells sector count holds next = absurd (cc)
 bits_written area durable (WriteBits k) sets cells sector count (all, bits) next = all

@@ -24,7 +24,8 @@ use Rattle.fill_store.proofs.Values.{left_by_cut}
 pub no_bit : (b : ℕ) → has_bit zero_bits b ≡ false
 unfolding zero_bits
 no_bit b =
-    let nothing : get_or (replicate 512 0) (b % 4096 / 8) 0 ≡ 0 = get_or-replicate 512 (b % 4096 / 8) 0 0 (omega arith) in
+    let nothing : get_or (replicate 512 0) (b % 4096 / 8) 0 ≡ 0 = get_or-replicate 512 (b % 4096 / 8) 0 0
+    (omega arith) in
     ap (λ byte. bit_at byte (b % 8) == 1) nothing ∙ ap (λ bit. bit == 1) (bit_at-zero (b % 8))
 
 -- a bitmap of zeros stores no block
@@ -32,7 +33,8 @@ pub zeros_stored : (area : Area) (id : ℕ) (disk : List (List ℕ))
     → ((k : ℕ) → k < bitmap_sectors_of area → bitmap_sector area disk k ≡ zero_bits)
     → stored_blocks area id disk ≡ empty_set (blocks_of area)
 zeros_stored area id disk zeros =
-    cond_both (has_header area id disk) (map (says_stored area disk) (range_with_len 0 (blocks_of area))) (empty_set (blocks_of area))
+    cond_both (has_header area id disk) (map (says_stored area disk) (range_with_len 0 (blocks_of area)))
+    (empty_set (blocks_of area))
     (λ (set : List Bool). set ≡ empty_set (blocks_of area))
     (λ yes. sym (fill_by_all (says_stored area disk) (empty_set (blocks_of area)) (blocks_of area) false
     (length-replicate (blocks_of area) false)
@@ -53,7 +55,8 @@ pub cut_bits : (area : Area) (id : ℕ) (least most : List Bool) (cells : List C
     → HasBitsBetween area k least most (bitmap_sector area outcome k)
 cut_bits area id least most cells outcome k inside kept left =
     let reserved = kept.reserved in
-    left_by_cut (HasBitsBetween area k least most) (sector_of_bits area k) cells outcome (omega arith) (kept.bits k inside) left
+    left_by_cut (HasBitsBetween area k least most) (sector_of_bits area k) cells outcome (omega arith)
+    (kept.bits k inside) left
 
 -- a cut leaves each block of the first set stored
 pub cut_stores : (area : Area) (id : ℕ) (least most : List Bool) (cells : List Cell) (outcome : List (List ℕ))
@@ -63,15 +66,18 @@ cut_stores area id least most cells outcome kept left b held =
     let below = held_inside least b held in
     let inside : b < blocks_of area = omega arith in
     stored_block area id outcome b (cut_header area id least most cells outcome kept left) inside
-    ∙ (cut_bits area id least most cells outcome (b / 4096) (sector_of_block area b inside) kept left).least_set b refl held
+    ∙ (cut_bits area id least most cells outcome (b / 4096) (sector_of_block area b inside) kept left).least_set
+    b refl held
 
 -- a cut leaves no block stored that the other set lacks
 pub cut_stores_no_other : (area : Area) (id : ℕ) (least most : List Bool) (cells : List Cell) (outcome : List (List ℕ))
     → KeepsBits area id least most cells → IsOutcome cells outcome → IsWithin (stored_blocks area id outcome) most
 cut_stores_no_other area id least most cells outcome kept left b held =
     let inside = stored_inside area id outcome b held in
-    let says = sym (stored_block area id outcome b (cut_header area id least most cells outcome kept left) inside) ∙ held in
-    (cut_bits area id least most cells outcome (b / 4096) (sector_of_block area b inside) kept left).set_most b inside refl says
+    let says = sym (stored_block area id outcome b (cut_header area id least most cells outcome kept left) inside)
+    ∙ held in
+    (cut_bits area id least most cells outcome (b / 4096) (sector_of_block area b inside) kept left).set_most
+    b inside refl says
 
 -- where the two sets are one, a cut leaves exactly its blocks stored
 pub cut_stores_set : (area : Area) (id : ℕ) (set : List Bool) (cells : List Cell) (outcome : List (List ℕ))

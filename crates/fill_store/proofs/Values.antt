@@ -34,7 +34,8 @@ each_written P s other bytes [] new each = each
 each_written P zero zero bytes (cell ∷ cells) new each = All-cons P bytes (values cell) (new refl) each
 each_written P zero (suc other) bytes (cell ∷ cells) new each = each
 each_written P (suc s) zero bytes (cell ∷ cells) new each = each
-each_written P (suc s) (suc other) bytes (cell ∷ cells) new each = each_written P s other bytes cells (λ e. new (ap suc e)) each
+each_written P (suc s) (suc other) bytes (cell ∷ cells) new each = each_written P s other bytes cells
+    (λ e. new (ap suc e)) each
 
 -- the newest value of another sector stays where one is written
 pub other_written : (s other : ℕ) (bytes : List ℕ) (cells : List Cell) → other ≢ s
@@ -56,15 +57,18 @@ cell_flushed zero (cell ∷ cells) = refl
 cell_flushed (suc s) (cell ∷ cells) = cell_flushed s cells
 
 -- after a flush the newest value of a sector is its only one
-pub each_flushed : (P : List ℕ → Type 0) (s : ℕ) (cells : List Cell) → P (value_at s cells) → Each P s (all_flushed cells)
-each_flushed P s cells new = subst (λ cell. All P (values cell)) (sym (cell_flushed s cells)) (alone P (value_at s cells) new)
+pub each_flushed : (P : List ℕ → Type 0) (s : ℕ) (cells : List Cell) → P (value_at s cells)
+    → Each P s (all_flushed cells)
+each_flushed P s cells new = subst (λ cell. All P (values cell)) (sym (cell_flushed s cells))
+    (alone P (value_at s cells) new)
 
 -- after a flush the newest value of a sector is what it was
 pub newest_flushed : (s : ℕ) (cells : List Cell) → value_at s (all_flushed cells) ≡ value_at s cells
 newest_flushed s cells = ap current (cell_flushed s cells)
 
 -- the newest value of a sector is all that a flush leaves of it
-pub flushed_alone : (s : ℕ) (cells : List Cell) (value : List ℕ) → Contains (values (cell_at s (all_flushed cells))) value
+pub flushed_alone : (s : ℕ) (cells : List Cell) (value : List ℕ)
+    → Contains (values (cell_at s (all_flushed cells))) value
     → value ≡ value_at s cells
 flushed_alone s cells value held =
     contained_alone (value_at s cells) value (subst (λ cell. Contains (values cell) value) (cell_flushed s cells) held)
@@ -80,7 +84,8 @@ flush_forgets cells = record {
 }
 
 -- what each value of a sector is, each is where older ones were forgotten
-pub each_forgets : (P : List ℕ → Type 0) (s : ℕ) (old new : List Cell) → ForgetsOld old new → Each P s old → Each P s new
+pub each_forgets : (P : List ℕ → Type 0) (s : ℕ) (old new : List Cell) → ForgetsOld old new → Each P s old
+    → Each P s new
 each_forgets P s old new forgets each k d below =
     let xs : List (List ℕ) = values (cell_at s new) in
     let x : List ℕ = get_or xs k d in
@@ -108,7 +113,8 @@ at_power_on P zero (value ∷ disk) below here = alone P value here
 at_power_on P (suc s) (value ∷ disk) below here = at_power_on P s disk (omega arith) here
 
 -- a test of two numbers, and what holds both ways
-pub on_test : {X : Type 0} (P : X → Type 0) (k n : ℕ) (same other : X) → (k ≡ n → P same) → P other → P (if k == n then same else other)
+pub on_test : {X : Type 0} (P : X → Type 0) (k n : ℕ) (same other : X) → (k ≡ n → P same) → P other
+    → P (if k == n then same else other)
 on_test P k n same other at_same else_on = elim (eqb_tells k n) [
   | inl (test, e) ↦ rw test (at_same e)
   | inr (test, apart) ↦ rw test else_on

@@ -5,8 +5,14 @@ use Rattle.bm_host.specs.Outside.{IfTold, bytes_at}
 use Rattle.image_server.specs.Serving.{OverImage}
 
 -- what holds over every image
-pub over_any : (sectors : ℕ) (told : Option (List ℕ)) (P : List ℕ → Type 0) → ((image : List ℕ) → P image) → OverImage sectors told P
-over_any sectors None P all = (replicate (512 * sectors) 0, length-replicate (512 * sectors) 0, all (replicate (512 * sectors) 0))
+pub over_any : (sectors : ℕ) (told : Option (List ℕ)) (P : List ℕ → Type 0) → ((image : List ℕ) → P image)
+    → OverImage sectors told P
+over_any sectors None P all = (
+  replicate (512 * sectors) 0,
+  length-replicate (512 * sectors) 0,
+  all
+      (replicate (512 * sectors) 0),
+)
 over_any sectors (Some image) P all = all image
 
 -- what follows over every image
@@ -24,7 +30,8 @@ length-image_with : (sectors place : ℕ) (bytes : List ℕ) → place + length 
 unfolding image_with
 length-image_with sectors place bytes inside = simp (length-append, length-replicate) (omega arith)
 
-bytes_at-image_with : (sectors place : ℕ) (bytes : List ℕ) → bytes_at place (length bytes) (image_with sectors place bytes) ≡ bytes
+bytes_at-image_with : (sectors place : ℕ) (bytes : List ℕ) → bytes_at place (length bytes)
+    (image_with sectors place bytes) ≡ bytes
 unfolding image_with
 bytes_at-image_with sectors place bytes =
     let rest = replicate (512 * sectors - place - length bytes) 0 in
@@ -34,7 +41,8 @@ bytes_at-image_with sectors place bytes =
 -- what holds of the bytes at a place holds over the image
 pub over_bytes : (sectors place n : ℕ) (told : Option (List ℕ)) (bytes : List ℕ) (P : List ℕ → Type 0)
     → place + n ≤ 512 * sectors → length bytes ≡ n
-    → IfTold told (λ image. bytes ≡ bytes_at place n image) → P bytes → OverImage sectors told (λ image. P (bytes_at place n image))
+    → IfTold told (λ image. bytes ≡ bytes_at place n image) → P bytes
+    → OverImage sectors told (λ image. P (bytes_at place n image))
 over_bytes sectors place n None bytes P inside many read holds =
     let image = image_with sectors place bytes in
     let all : length image ≡ 512 * sectors = length-image_with sectors place bytes (omega arith) in

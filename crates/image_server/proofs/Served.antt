@@ -27,23 +27,30 @@ answer_plain sectors told a r kind asked is =
     (λ image. is image ∙ ap (λ k. ata_answer k sectors image a) (sym asked))
 
 -- an answer with sectors
-pub answer_sectors : (sectors : ℕ) (told : Option (List ℕ)) (a r : AtaPart) (body : List ℕ) → asked_in sectors a ≡ Sectors
-    → r ≡ answered a 0 80 body → length body ≡ 512 * a.count → IfTold told (λ image. body ≡ bytes_at (512 * a.lba) (512 * a.count) image)
+pub answer_sectors : (sectors : ℕ) (told : Option (List ℕ)) (a r : AtaPart) (body : List ℕ)
+    → asked_in sectors a ≡ Sectors
+    → r ≡ answered a 0 80 body → length body ≡ 512 * a.count
+    → IfTold told (λ image. body ≡ bytes_at (512 * a.lba) (512 * a.count) image)
     → OverImage sectors told (λ image. r ≡ ata_answer (asked_in sectors a) sectors image a)
 answer_sectors sectors told a r body asked is many read =
     let inside = asked_sectors sectors a asked in
     over_map sectors told (λ image. r ≡ answered a 0 80 (bytes_at (512 * a.lba) (512 * a.count) image))
-    (λ image. r ≡ ata_answer (asked_in sectors a) sectors image a) (λ image e. e ∙ ap (λ k. ata_answer k sectors image a) (sym asked))
-    (over_bytes sectors (512 * a.lba) (512 * a.count) told body (λ bytes. r ≡ answered a 0 80 bytes) (omega arith) many read is)
+    (λ image. r ≡ ata_answer (asked_in sectors a) sectors image a)
+    (λ image e. e ∙ ap (λ k. ata_answer k sectors image a) (sym asked))
+    (over_bytes sectors (512 * a.lba) (512 * a.count) told body (λ bytes. r ≡ answered a 0 80 bytes)
+    (omega arith) many read is)
 
 -- what is answered to the one reading of a frame is answered to the frame
-pub answer_read : (sectors : ℕ) (told : Option (List ℕ)) (frame : List ℕ) (read : Result Aoe FrameFault) (answer : Option (List ℕ))
+pub answer_read : (sectors : ℕ) (told : Option (List ℕ)) (frame : List ℕ) (read : Result Aoe FrameFault)
+    (answer : Option (List ℕ))
     → IsReading frame read
     → OverImage sectors told (λ image. answer ≡ option_map frame_of (reply sectors image read))
     → OverImage sectors told (λ image. IsAnswer sectors image frame answer)
 answer_read sectors told frame read answer is over =
-    over_map sectors told (λ image. answer ≡ option_map frame_of (reply sectors image read)) (λ image. IsAnswer sectors image frame answer)
-    (λ image e r other. e ∙ ap (λ x. option_map frame_of (reply sectors image x)) (one_reading frame read r is other)) over
+    over_map sectors told (λ image. answer ≡ option_map frame_of (reply sectors image read))
+    (λ image. IsAnswer sectors image frame answer)
+    (λ image e r other. e ∙ ap (λ x. option_map frame_of (reply sectors image x)) (one_reading frame read r is other))
+    over
 
 pub answer_result : {E : Type 0} (sectors : ℕ) (told : Option (List ℕ)) (frame : List ℕ) (read : Result Aoe FrameFault)
     (result : Result (Option (List ℕ)) E)
@@ -57,7 +64,8 @@ answer_result sectors told frame read (Err e) is over = tt
 pub sent_read : (sectors : ℕ) (frame : List ℕ) (read : Result Aoe FrameFault) (P : ℕ → Type 0) → IsReading frame read
     → P (sectors_sent sectors read)
     → (r : Result Aoe FrameFault) → IsReading frame r → P (sectors_sent sectors r)
-sent_read sectors frame read P is holds r other = subst (λ x. P (sectors_sent sectors x)) (one_reading frame read r is other) holds
+sent_read sectors frame read P is holds r other = subst (λ x. P (sectors_sent sectors x))
+    (one_reading frame read r is other) holds
 
 pub needed_result : {T E : Type 0} (sectors : ℕ) (frame : List ℕ) (read : Result Aoe FrameFault) (result : Result T E)
     → IsReading frame read

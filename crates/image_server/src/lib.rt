@@ -1,11 +1,11 @@
 //! The image server: what it replies to a frame, over the bytes of an image.
 //!
-//! Start with `serve`. `request` says what a request asks, `reply` makes the parts of the answer, and `identity` what the
-//! server says of itself.
+//! Start with `serve`. `request` says what a request asks, `reply` makes the parts of the answer, and `identity` what
+//! the server says of itself.
 //!
-//! `specs/Request.antt` and `specs/Reply.antt` have the reply as a function of what a frame was read as and of the image,
-//! a line for each row of the table in `docs/network.md`; `specs/Serving.antt` says what serving it over a host answers
-//! and changes.
+//! `specs/Request.antt` and `specs/Reply.antt` have the reply as a function of what a frame was read as and of the
+//! image, a line for each row of the table in `docs/network.md`; `specs/Serving.antt` says what serving it over a
+//! host answers and changes.
 
 #![tactic(auto)]
 

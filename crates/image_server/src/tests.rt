@@ -165,7 +165,8 @@ fn requests_without_sectors(rt: HostRuntime) -> Result<(), Fail> {
     Ok(())
 }
 
-// Frames that get no reply: cut, of another type, a reply, of another shelf, of another slot, and two of another version.
+// Frames that get no reply: cut, of another type, a reply, of another shelf, of another slot, and two of another
+// version.
 #[test]
 fn each_silence(rt: HostRuntime) -> Result<(), Fail> {
     let cases = [

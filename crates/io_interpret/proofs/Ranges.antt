@@ -30,7 +30,8 @@ pub one_touched : (area : Area) (filled : List Bool) (first count s : ℕ) → f
 one_touched area filled first count s from before empty =
     let place : s - first < count = omega arith in
     let there : first + (s - first) ≡ s = omega arith in
-    let at : get_or (range_with_len first count) (s - first) 0 ≡ s = get_or-range_with_len first count (s - first) 0 place ∙ there in
+    let at : get_or (range_with_len first count) (s - first) 0 ≡ s = get_or-range_with_len first count
+    (s - first) 0 place ∙ there in
     list_any_at (is_empty_at area filled) (range_with_len first count) (s - first) 0
     (omega (arith, length-range_with_len first count)) (rw at empty)
 
@@ -47,7 +48,8 @@ empty_past : (area : Area) (filled : List Bool) (s : ℕ) → area.image ≤ s �
 empty_past area filled s past = grind (arith, nat_tests)
 
 -- a sector in a filled block lies in no empty one
-filled_at : (area : Area) (filled : List Bool) (s : ℕ) → has filled (block_at area s) ≡ true → is_empty_at area filled s ≡ false
+filled_at : (area : Area) (filled : List Bool) (s : ℕ) → has filled (block_at area s) ≡ true
+    → is_empty_at area filled s ≡ false
 filled_at area filled s held = grind (arith, nat_tests)
 
 -- a sector of the image in a block that isn't filled lies in an empty one
@@ -69,7 +71,8 @@ div_le : (m n k : ℕ) → 0 < k → m ≤ n → m / k ≤ n / k
 div_le m n k some le = (le-div_iff_mul-le some).1 (let part = div-mul-le_self m k in omega arith)
 
 -- a range touches no empty block where those of its sectors of the image are filled
-pub all_filled : (area : Area) (filled : List Bool) (first count end : ℕ) → 0 < area.block → end ≡ min area.image (first + count)
+pub all_filled : (area : Area) (filled : List Bool) (first count end : ℕ) → 0 < area.block
+    → end ≡ min area.image (first + count)
     → ((b : ℕ) → first / area.block ≤ b → b ≤ (end - 1) / area.block → has filled b ≡ true)
     → touches_empty area filled first count ≡ false
 all_filled area filled first count end some ends held =
@@ -77,11 +80,13 @@ all_filled area filled first count end some ends held =
       | inr past ↦ empty_past area filled s past
       | inl inside ↦
           let last : s ≤ end - 1 = omega arith in
-          filled_at area filled s (held (s / area.block) (div_le first s area.block some from) (div_le s (end - 1) area.block some last))
+          filled_at area filled s (held (s / area.block) (div_le first s area.block some from)
+          (div_le s (end - 1) area.block some last))
     ])
 
 -- a range touches an empty block where one of those of its sectors of the image isn't filled
-pub one_empty : (area : Area) (filled : List Bool) (first count end b : ℕ) → 0 < area.block → end ≡ min area.image (first + count)
+pub one_empty : (area : Area) (filled : List Bool) (first count end b : ℕ) → 0 < area.block
+    → end ≡ min area.image (first + count)
     → first < end
     → first / area.block ≤ b → b ≤ (end - 1) / area.block → has filled b ≡ false
     → touches_empty area filled first count ≡ true
@@ -89,8 +94,10 @@ one_empty area filled first count end b some ends any low high lacks =
     let within : b * area.block ≤ end - 1 = (le-div_iff_mul-le some).0 high in
     elim (cases_lt (b * area.block) first) [
       | inl below ↦
-          let same : first / area.block ≡ b = (let up : b ≤ first / area.block = (le-div_iff_mul-le some).1 (omega arith) in omega arith) in
-          one_touched area filled first count first (omega arith) (omega arith) (empty_at area filled first (omega arith) (rw same lacks))
+          let same : first / area.block ≡ b =
+          (let up : b ≤ first / area.block = (le-div_iff_mul-le some).1 (omega arith) in omega arith) in
+          one_touched area filled first count first (omega arith) (omega arith)
+          (empty_at area filled first (omega arith) (rw same lacks))
       | inr above ↦
           let same : b * area.block / area.block ≡ b = mul-div_cancel b some in
           one_touched area filled first count (b * area.block) above (omega arith)

@@ -27,10 +27,12 @@ module _ (at : ℕ) (bytes block : List ℕ) (fits : at + length bytes ≤ lengt
       ap (drop at) written_is ∙ drop_at (take at block) (bytes ++ rest) at (omega (arith, length-take at block))
 
   pub written_there : take (length bytes) (drop at (written_at at bytes block)) ≡ bytes
-  written_there = ap (take (length bytes)) written_from ∙ take_at bytes (drop (length bytes) (drop at block)) (length bytes) refl
+  written_there = ap (take (length bytes)) written_from ∙ take_at bytes (drop (length bytes) (drop at block))
+      (length bytes) refl
 
   -- a part that ends before it is as it was
-  pub written_below : (place n : ℕ) → place + n ≤ at → take n (drop place (written_at at bytes block)) ≡ take n (drop place block)
+  pub written_below : (place n : ℕ) → place + n ≤ at → take n (drop place (written_at at bytes block)) ≡ take n
+      (drop place block)
   written_below place n before =
       let more = bytes ++ drop (length bytes) (drop at block) in
       let start = take at block in
@@ -45,7 +47,8 @@ module _ (at : ℕ) (bytes block : List ℕ) (fits : at + length bytes ≤ lengt
       ∙ take-take n m (drop place block) (omega arith)
 
   -- and one that begins behind it
-  pub written_above : (place : ℕ) → at + length bytes ≤ place → drop place (written_at at bytes block) ≡ drop place block
+  pub written_above : (place : ℕ) → at + length bytes ≤ place
+      → drop place (written_at at bytes block) ≡ drop place block
   written_above place behind =
       let n = length bytes in let j = place - (at + n) in
       let sum : place ≡ at + (n + j) = omega arith in
@@ -82,10 +85,12 @@ module _ (n k : ℕ) (bytes block : List ℕ) (long : length bytes ≡ n) (fits 
   -- and each other part is as it was
   pub part_kept : (i : ℕ) → i ≢ k → take n (drop (i * n) (written_at (k * n) bytes block)) ≡ take n (drop (i * n) block)
   part_kept i apart = elim (cases_lt i k) [
-    | inl below ↦ written_below (k * n) bytes block (omega (arith, long, fits)) (i * n) n (omega (arith, mul-le-mul_right n below))
+    | inl below ↦ written_below (k * n) bytes block (omega (arith, long, fits)) (i * n) n
+        (omega (arith, mul-le-mul_right n below))
     | inr above ↦
         let next : suc k ≤ i = omega arith in
-        ap (take n) (written_above (k * n) bytes block (omega (arith, long, fits)) (i * n) (omega (arith, long, mul-le-mul_right n next)))
+        ap (take n) (written_above (k * n) bytes block (omega (arith, long, fits)) (i * n)
+        (omega (arith, long, mul-le-mul_right n next)))
   ]
 
 module _ (pool : Region) (lease : Held) (bytes : List ℕ) (whole : IsWhole pool) (of : IsOf lease pool)
@@ -98,7 +103,8 @@ module _ (pool : Region) (lease : Held) (bytes : List ℕ) (whole : IsWhole pool
   own_bytes = part_written pool.room lease.slot bytes pool.block long fits
 
   -- and no other lease shows a byte of it
-  pub others_bytes : (other : Held) → other.slot ≢ lease.slot → bytes_of other (with_bytes lease pool bytes) ≡ bytes_of other pool
+  pub others_bytes : (other : Held) → other.slot ≢ lease.slot
+      → bytes_of other (with_bytes lease pool bytes) ≡ bytes_of other pool
   others_bytes other apart = part_kept pool.room lease.slot bytes pool.block long fits other.slot apart
 
   -- the block is still all slots
@@ -106,7 +112,14 @@ module _ (pool : Region) (lease : Held) (bytes : List ℕ) (whole : IsWhole pool
   whole_written = length_written pool.room lease.slot bytes pool.block long fits ∙ whole
 
 -- a lease shows as many bytes as a slot has
-pub length_bytes : (pool : Region) (lease : Held) → IsWhole pool → IsOf lease pool → length (bytes_of lease pool) ≡ pool.room
+pub length_bytes : (pool : Region) (lease : Held) → IsWhole pool → IsOf lease pool
+    → length (bytes_of lease pool) ≡ pool.room
 length_bytes pool lease whole of =
     let within = slot_within lease.slot pool.room pool.free pool.block of.out whole in
-    omega (arith, within, length-take pool.room (drop (lease.slot * pool.room) pool.block), length-drop (lease.slot * pool.room) pool.block)
+    omega (
+      arith,
+      within,
+      length-take pool.room (drop (lease.slot * pool.room) pool.block),
+      length-drop
+          (lease.slot * pool.room) pool.block,
+    )

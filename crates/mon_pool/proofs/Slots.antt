@@ -50,12 +50,14 @@ some_free free slot first no_slot =
     omega (arith, more, within)
 
 -- there is a first free slot exactly where one is free
-pub none_where : (free : List Bool) (first : Option ℕ) → position (λ x. x) free ≡ first → IsNone first ↔ (count_by (λ x. x) free ≡ 0)
+pub none_where : (free : List Bool) (first : Option ℕ) → position (λ x. x) free ≡ first
+    → IsNone first ↔ (count_by (λ x. x) free ≡ 0)
 none_where free None is = (λ none. none_free free is, λ _. refl)
 none_where free (Some slot) is = (λ none. absurd (true≢false none), λ no_slot. absurd (some_free free slot is no_slot))
 
 -- the first free slot isn't one that is out
-pub new_apart : (free : List Bool) (slot other : ℕ) → position (λ x. x) free ≡ Some slot → slice_get free other ≡ Some false → other ≢ slot
+pub new_apart : (free : List Bool) (slot other : ℕ) → position (λ x. x) free ≡ Some slot
+    → slice_get free other ≡ Some false → other ≢ slot
 new_apart free slot other first out same =
     let at = position-Some (λ x. x) free slot false first in
     let not_free : get_or free other false ≡ false = get_or_from_slice_get free other false false out in
@@ -73,7 +75,8 @@ out_before (x ∷ free) (suc slot) (suc other) out =
     (before.0, λ same. before.1 (omega arith))
 
 -- so a lease that is of the pool once another was given back was before, and is of another slot
-pub of_before : (pool : Region) (lease other : Held) → IsOf other (given lease pool) → IsOf other pool × (other.slot ≢ lease.slot)
+pub of_before : (pool : Region) (lease other : Held) → IsOf other (given lease pool)
+    → IsOf other pool × (other.slot ≢ lease.slot)
 of_before pool lease other of =
     let before = out_before pool.free lease.slot other.slot of.out in
     (record { block = of.block; out = before.0 }, before.1)

@@ -13,4 +13,10 @@ step_runs sector cancelled s p f =
 
 pub destage_runs : (sector : ℕ) (cancelled : Bool) (k : ℕ) (p : Physical) → IsInFlight sector cancelled (seen p).device
     → IsInFlight sector cancelled (seen (physical_destaged k p)).device
-destage_runs sector cancelled k p f = record { selected = f.selected; stands = f.stands; pending = f.pending; masked = f.masked }
+destage_runs sector cancelled k p f = record {
+  selected = f.selected;
+  stands = f.stands;
+  pending =
+      f.pending;
+  masked = f.masked;
+}

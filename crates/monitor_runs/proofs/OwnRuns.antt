@@ -18,11 +18,13 @@ use Rattle.own_pio.specs.Running.{IsRunning, StandsIn, words_for}
 use Rattle.own_pio.proofs.Steps.{step_running, stands_at, good_order}
 
 -- the drive with other cells, of which a read that waits sees nothing
-other_cells : (phase : Phase) (job : OwnJob) (done : ℕ) (d : Device) (cells : List Cell) → words_for job done d ≡ words_for job done (record d { cells = cells })
+other_cells : (phase : Phase) (job : OwnJob) (done : ℕ) (d : Device) (cells : List Cell)
+    → words_for job done d ≡ words_for job done (record d { cells = cells })
     → StandsIn phase job done d → StandsIn phase job done (record d { cells = cells })
 other_cells Reset job done d cells same s = s
 other_cells Idle job done d cells same s = s
-other_cells (Busy order position) job done d cells same s = record { order_is = s.order_is; position_is = s.position_is }
+other_cells (Busy order position) job done d cells same s =
+    record { order_is = s.order_is; position_is = s.position_is }
 other_cells (Ready order position left) job done d cells same s = record {
   moves = s.moves;
   below = s.below;
@@ -34,7 +36,8 @@ other_cells (Ready order position left) job done d cells same s = record {
 }
 
 -- a step of a read changes no sector
-read_leaves : (first count done : ℕ) (phase : Phase) (p : Plain) → p.device.file.phase ≡ phase → IsRunning (Read first count) done p.device → change_in phase p ≡ leaves
+read_leaves : (first count done : ℕ) (phase : Phase) (p : Plain) → p.device.file.phase ≡ phase
+    → IsRunning (Read first count) done p.device → change_in phase p ≡ leaves
 read_leaves first count done Reset p e r = refl
 read_leaves first count done Idle p e r = refl
 read_leaves first count done (Ready taken position left) p e r = refl
@@ -44,7 +47,8 @@ read_leaves first count done (Busy (Good order) position) p e r =
     let is = good_order (Read first count) order p.device.sectors s.order_is in
     grind (arith, s, is)
 
-step_leaves : (first count done : ℕ) (s : Step) (p : Plain) → IsRunning (Read first count) done p.device → change_made s p ≡ leaves
+step_leaves : (first count done : ℕ) (s : Step) (p : Plain) → IsRunning (Read first count) done p.device
+    → change_made s p ≡ leaves
 step_leaves first count done step.Good p r = read_leaves first count done p.device.file.phase p refl r
 step_leaves first count done step.Bad p r = refl
 
@@ -55,7 +59,8 @@ same_words (Read first count) done s p r = rw (step_leaves first count done s (s
 same_words (Write first count) done s p r = refl
 same_words Flush done s p r = refl
 
-pub step_runs : (job : OwnJob) (done : ℕ) (s : Step) (p : Physical) → IsFit job → IsLawful (seen p).device → IsRunning job done (seen p).device
+pub step_runs : (job : OwnJob) (done : ℕ) (s : Step) (p : Physical) → IsFit job → IsLawful (seen p).device
+    → IsRunning job done (seen p).device
     → IsRunning job done (seen (physical_step s p)).device
 step_runs job done s p fit l r =
     let made = step_made s (seen p) in
@@ -63,7 +68,8 @@ step_runs job done s p fit l r =
     record {
       masked = next.masked;
       selected = next.selected;
-      stands = other_cells made.device.file.phase job done made.device (cells_of (kept_after (change_made s (seen p)) p.kept)) (same_words job done s p r) next.stands;
+      stands = other_cells made.device.file.phase job done made.device
+          (cells_of (kept_after (change_made s (seen p)) p.kept)) (same_words job done s p r) next.stands;
     }
 
 -- a drive at work, or at rest
@@ -77,10 +83,12 @@ quiet_cells : (phase : Phase) (job : OwnJob) (done : ℕ) (d : Device) (cells : 
     → StandsIn phase job done d → StandsIn phase job done (record d { cells = cells })
 quiet_cells Reset job done d cells quiet s = s
 quiet_cells Idle job done d cells quiet s = s
-quiet_cells (Busy order position) job done d cells quiet s = record { order_is = s.order_is; position_is = s.position_is }
+quiet_cells (Busy order position) job done d cells quiet s =
+    record { order_is = s.order_is; position_is = s.position_is }
 quiet_cells (Ready order position left) job done d cells quiet s = absurd (grind arith)
 
-pub destage_runs : (job : OwnJob) (done k : ℕ) (p : Physical) → is_quiet p.file.phase ≡ true → IsRunning job done (seen p).device
+pub destage_runs : (job : OwnJob) (done k : ℕ) (p : Physical) → is_quiet p.file.phase ≡ true
+    → IsRunning job done (seen p).device
     → IsRunning job done (seen (physical_destaged k p)).device
 destage_runs job done k p quiet r = record {
   masked = r.masked;

@@ -22,13 +22,17 @@ dev : (b : ℕ) → b < 16 → bit_and (64 + b) 16 ≡ 0
 dev b few = and_block 4 4 1 b 0 few (lit< tt) ∙ rw (and_none b) refl
 
 pub lba_set : (first count : ℕ) → IsNamed first count → has_bit LBA (64 + first / 16777216) ≡ true
-lba_set first count fit = let few : first / 16777216 < 16 = omega (arith, fit.below, fit.some) in ap (λ n. not (n == 0)) (lba (first / 16777216) few)
+lba_set first count fit = let few : first / 16777216 < 16 = omega (arith, fit.below, fit.some) in
+    ap (λ n. not (n == 0)) (lba (first / 16777216) few)
 
 pub dev_clear : (first count : ℕ) → IsNamed first count → has_bit DEV (64 + first / 16777216) ≡ false
-dev_clear first count fit = let few : first / 16777216 < 16 = omega (arith, fit.below, fit.some) in ap (λ n. not (n == 0)) (dev (first / 16777216) few)
+dev_clear first count fit = let few : first / 16777216 < 16 = omega (arith, fit.below, fit.some) in
+    ap (λ n. not (n == 0)) (dev (first / 16777216) few)
 
 -- the address registers name the first sector
-address : (first : ℕ) → first < 2 ^ 28 → first % 256 + 256 * (first / 256 % 256) + 65536 * (first / 65536 % 256) + 16777216 * ((64 + first / 16777216) % 16) ≡ first
+address : (first : ℕ) → first < 2 ^ 28
+    → first % 256 + 256 * (first / 256 % 256) + 65536 * (first / 65536 % 256) + 16777216 * ((64 + first / 16777216)
+    % 16) ≡ first
 address first below = omega arith
 
 pub read_named : (first count : ℕ) (f : TaskFile) (sectors : ℕ) → IsNamed first count

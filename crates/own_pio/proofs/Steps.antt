@@ -27,36 +27,45 @@ abbrev pub gave_up : Phase → Plain → Plain
 gave_up phase p = with_cells p.device.cells (failed_step phase p)
 
 -- an order of a job that isn't refused is its request
-pub good_order : (job : OwnJob) (order : Request) (sectors : ℕ) → Good order ≡ order_of job sectors → Good order ≡ Good (request_of job)
+pub good_order : (job : OwnJob) (order : Request) (sectors : ℕ) → Good order ≡ order_of job sectors
+    → Good order ≡ Good (request_of job)
 good_order job order sectors e = grind arith
 
 -- DEV stays where an address comes into Device
-pub dev_kept : (device b : ℕ) → has_bit DEV device ≡ false → has_bit DEV (bit_or (bit_and device 240) (bit_and b 15)) ≡ false
+pub dev_kept : (device b : ℕ) → has_bit DEV device ≡ false
+    → has_bit DEV (bit_or (bit_and device 240) (bit_and b 15)) ≡ false
 dev_kept device b e =
     let none : bit_and (bit_and b 15) 16 ≡ 0 = and_assoc 16 b 15 ∙ and_mask b 0 ∙ omega arith in
-    let same : bit_and (bit_or (bit_and device 240) (bit_and b 15)) 16 ≡ bit_and device 16 = and_or_apart 16 (bit_and device 240) (bit_and b 15) none ∙ and_assoc 16 device 240 in
+    let same : bit_and (bit_or (bit_and device 240) (bit_and b 15)) 16 ≡ bit_and device 16 =
+    and_or_apart 16 (bit_and device 240) (bit_and b 15) none ∙ and_assoc 16 device 240 in
     ap (λ n. not (n == 0)) same ∙ e
 
 -- where the drive stands, by its phase
-pub stands_at : (job : OwnJob) (done : ℕ) (phase : Phase) (p : Plain) → p.device.file.phase ≡ phase → IsRunning job done p.device → StandsIn phase job done p.device
+pub stands_at : (job : OwnJob) (done : ℕ) (phase : Phase) (p : Plain) → p.device.file.phase ≡ phase
+    → IsRunning job done p.device → StandsIn phase job done p.device
 stands_at job done phase p e r = let P : Phase → Type 0 = λ x. StandsIn x job done p.device in subst P e r.stands
 
 -- a step of each kind of job
-read_running : (first count done : ℕ) (order : Request) (position : ℕ) (p : Plain) → IsFit (Read first count) → p.device.file.phase ≡ Busy (Good order) position → IsLawful p.device
-    → IsRunning (Read first count) done p.device → IsRunning (Read first count) done (gone (Busy (Good order) position) p).device
+read_running : (first count done : ℕ) (order : Request) (position : ℕ) (p : Plain) → IsFit (Read first count)
+    → p.device.file.phase ≡ Busy (Good order) position → IsLawful p.device
+    → IsRunning (Read first count) done p.device → IsRunning (Read first count) done
+    (gone (Busy (Good order) position) p).device
 read_running first count done order position p fit e l r =
     let s = stands_at (Read first count) done (Busy (Good order) position) p e r in
     let is = good_order (Read first count) order p.device.sectors s.order_is in
     grind (arith, s, is)
 
-write_running : (first count done : ℕ) (order : Request) (position : ℕ) (p : Plain) → IsFit (Write first count) → p.device.file.phase ≡ Busy (Good order) position → IsLawful p.device
-    → IsRunning (Write first count) done p.device → IsRunning (Write first count) done (gone (Busy (Good order) position) p).device
+write_running : (first count done : ℕ) (order : Request) (position : ℕ) (p : Plain) → IsFit (Write first count)
+    → p.device.file.phase ≡ Busy (Good order) position → IsLawful p.device
+    → IsRunning (Write first count) done p.device → IsRunning (Write first count) done
+    (gone (Busy (Good order) position) p).device
 write_running first count done order position p fit e l r =
     let s = stands_at (Write first count) done (Busy (Good order) position) p e r in
     let is = good_order (Write first count) order p.device.sectors s.order_is in
     grind (arith, s, is)
 
-flush_running : (done : ℕ) (order : Request) (position : ℕ) (p : Plain) → p.device.file.phase ≡ Busy (Good order) position
+flush_running : (done : ℕ) (order : Request) (position : ℕ) (p : Plain)
+    → p.device.file.phase ≡ Busy (Good order) position
     → IsRunning Flush done p.device → IsRunning Flush done (gone (Busy (Good order) position) p).device
 flush_running done order position p e r =
     let s = stands_at Flush done (Busy (Good order) position) p e r in
@@ -64,28 +73,35 @@ flush_running done order position p e r =
     grind (arith, s, is)
 
 -- a step that fails
-failed_running : (job : OwnJob) (done : ℕ) (order : Request) (position : ℕ) (p : Plain) → IsRunning job done p.device → IsRunning job done (gave_up (Busy (Good order) position) p).device
+failed_running : (job : OwnJob) (done : ℕ) (order : Request) (position : ℕ) (p : Plain) → IsRunning job done p.device
+    → IsRunning job done (gave_up (Busy (Good order) position) p).device
 failed_running job done order position p r = grind (arith, dev_kept)
 
-refused_running : (job : OwnJob) (done : ℕ) (reason : Refused) (position : ℕ) (p : Plain) → IsRunning job done p.device → IsRunning job done (gave_up (Busy (Bad reason) position) p).device
+refused_running : (job : OwnJob) (done : ℕ) (reason : Refused) (position : ℕ) (p : Plain)
+    → IsRunning job done p.device → IsRunning job done (gave_up (Busy (Bad reason) position) p).device
 refused_running job done reason position p r = grind arith
 
-good_running : (job : OwnJob) (done : ℕ) (phase : Phase) (p : Plain) → IsFit job → p.device.file.phase ≡ phase → IsLawful p.device → IsRunning job done p.device → IsRunning job done (gone phase p).device
+good_running : (job : OwnJob) (done : ℕ) (phase : Phase) (p : Plain) → IsFit job → p.device.file.phase ≡ phase
+    → IsLawful p.device → IsRunning job done p.device → IsRunning job done (gone phase p).device
 good_running job done Reset p fit e l r = absurd (stands_at job done Reset p e r)
 good_running job done Idle p fit e l r = r
 good_running job done (Ready taken position left) p fit e l r = r
 good_running job done (Busy (Bad reason) position) p fit e l r = refused_running job done reason position p r
-good_running (Read first count) done (Busy (Good order) position) p fit e l r = read_running first count done order position p fit e l r
-good_running (Write first count) done (Busy (Good order) position) p fit e l r = write_running first count done order position p fit e l r
+good_running (Read first count) done (Busy (Good order) position) p fit e l r =
+    read_running first count done order position p fit e l r
+good_running (Write first count) done (Busy (Good order) position) p fit e l r =
+    write_running first count done order position p fit e l r
 good_running Flush done (Busy (Good order) position) p fit e l r = flush_running done order position p e r
 
-bad_running : (job : OwnJob) (done : ℕ) (phase : Phase) (p : Plain) → p.device.file.phase ≡ phase → IsRunning job done p.device → IsRunning job done (gave_up phase p).device
+bad_running : (job : OwnJob) (done : ℕ) (phase : Phase) (p : Plain) → p.device.file.phase ≡ phase
+    → IsRunning job done p.device → IsRunning job done (gave_up phase p).device
 bad_running job done Reset p e r = r
 bad_running job done Idle p e r = r
 bad_running job done (Ready taken position left) p e r = r
 bad_running job done (Busy (Bad reason) position) p e r = refused_running job done reason position p r
 bad_running job done (Busy (Good order) position) p e r = failed_running job done order position p r
 
-pub step_running : (job : OwnJob) (done : ℕ) (s : Step) (p : Plain) → IsFit job → IsLawful p.device → IsRunning job done p.device → IsRunning job done (step_made s p).device
+pub step_running : (job : OwnJob) (done : ℕ) (s : Step) (p : Plain) → IsFit job → IsLawful p.device
+    → IsRunning job done p.device → IsRunning job done (step_made s p).device
 step_running job done step.Good p fit l r = good_running job done p.device.file.phase p fit refl l r
 step_running job done step.Bad p fit l r = bad_running job done p.device.file.phase p refl r

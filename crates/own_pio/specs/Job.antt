@@ -39,7 +39,8 @@ request_of (Read first count) =
     record { kind = kind.Read; form = PioIn; extended = false; first = first; count = count }
 request_of (Write first count) =
     record { kind = kind.Write; form = PioOut; extended = false; first = first; count = count }
-request_of Flush = record { kind = kind.Flush; form = NoMove; extended = false; first = 0; count = 0 }
+request_of Flush =
+    record { kind = kind.Flush; form = NoMove; extended = false; first = 0; count = 0 }
 
 -- the order that a drive of so many sectors makes of it
 abbrev pub order_of : OwnJob → ℕ → Taken

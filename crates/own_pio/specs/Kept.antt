@@ -17,7 +17,8 @@ use Rattle.own_pio.specs.Poll.{done_by}
 abbrev pub written_over : ℕ → ℕ → List ℕ → List Cell → List Cell
 written_over first zero bytes cells = cells
 written_over first (suc n) bytes cells =
-    appended (first + n) (bytes_of (words_at 256 (512 * n) bytes)) (written_over first n bytes cells)
+    appended (first + n) (bytes_of (words_at 256 (512 * n) bytes))
+    (written_over first n bytes cells)
 
 -- how many of the blocks of a write that went are in their cells: while the drive is at work, and where
 -- it gave up, the last one isn't
@@ -71,7 +72,8 @@ bytes_in Flush done cells bytes = bytes
 pub record IsDoneSoFar (job : OwnJob) (done : ℕ) (bytes start : List ℕ) (origin : List Cell)
     (d : Device) : Type 0 where
   pub cells : d.cells ≡ cells_in d.file.phase d.file.failed job done bytes origin
-  pub block : holds_block d.file.phase job done ≡ true → d.block ≡ words_at 256 (512 * (done - 1)) bytes
+  pub block : holds_block d.file.phase job done ≡ true
+      → d.block ≡ words_at 256 (512 * (done - 1)) bytes
   pub bytes_are : bytes ≡ bytes_in job done origin start
 
 -- the store of a job that is done
@@ -81,7 +83,8 @@ cells_done (Write first count) bytes origin = written_over first count bytes ori
 cells_done Flush bytes origin = all_flushed origin
 
 -- a job that is done: all its sectors were read, written or made durable
-pub record IsDone (job : OwnJob) (bytes start : List ℕ) (origin : List Cell) (d : Device) : Type 0 where
+pub record IsDone (job : OwnJob) (bytes start : List ℕ) (origin : List Cell)
+    (d : Device) : Type 0 where
   pub cells : d.cells ≡ cells_done job bytes origin
   pub bytes_are : bytes ≡ bytes_in job (count_of job) origin start
 

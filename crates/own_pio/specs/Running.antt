@@ -27,7 +27,8 @@ words_for (Write first count) done d = []
 words_for Flush done d = []
 
 -- a block of a job waits in Data, or is wanted there
-pub record IsOffered (job : OwnJob) (done : ℕ) (order : Taken) (position left : ℕ) (d : Device) : Type 0 where
+pub record IsOffered (job : OwnJob) (done : ℕ) (order : Taken) (position left : ℕ)
+    (d : Device) : Type 0 where
   pub moves : moves_blocks job ≡ true
   pub below : done < count_of job
   pub order_is : order ≡ order_of job d.sectors
@@ -37,7 +38,8 @@ pub record IsOffered (job : OwnJob) (done : ℕ) (order : Taken) (position left 
   pub block : d.block ≡ words_for job done d
 
 -- the drive is at work on a job
-pub record IsAtWork (job : OwnJob) (done : ℕ) (order : Taken) (position : ℕ) (d : Device) : Type 0 where
+pub record IsAtWork (job : OwnJob) (done : ℕ) (order : Taken) (position : ℕ)
+    (d : Device) : Type 0 where
   pub order_is : order ≡ order_of job d.sectors
   pub position_is : position ≡ done
 

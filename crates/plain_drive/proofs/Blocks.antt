@@ -22,7 +22,8 @@ length_words (suc n) (x ∷ y ∷ rest) e = ap suc (length_words n rest (omega a
 
 -- a word is made of its two bytes
 pub word_at : (i : ℕ) (bytes : List ℕ) → 2 * i + 1 < length bytes
-    → (i < length (words_of bytes)) × (get_or (words_of bytes) i 0 ≡ get_or bytes (2 * i) 0 + 256 * get_or bytes (2 * i + 1) 0)
+    → (i < length (words_of bytes)) × (get_or (words_of bytes) i 0 ≡ get_or bytes (2 * i) 0 + 256 * get_or bytes
+    (2 * i + 1) 0)
 word_at i [] room = absurd (omega arith)
 word_at i (x ∷ []) room = absurd (omega arith)
 word_at zero (x ∷ y ∷ rest) room = (omega arith, refl)

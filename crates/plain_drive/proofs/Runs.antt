@@ -10,9 +10,13 @@ use Rattle.plain_drive.proofs.Standing.{same_answer, durable_are_outcome, access
 
 -- one happening
 happens : (last : Happening) (physical : Physical) (p : Plain) → StandsFor physical p
-    → (now : Plain) × PlainHappens last p (physical_answers last physical) now × StandsFor (physical_after last physical) now
-happens (access a) physical p stands =
-    (record p { device = accessed a p.device }, (ap (λ answer. answer ∷ []) (same_answer physical p stands a), refl), access_stands physical p stands a)
+    → (now : Plain) × PlainHappens last p (physical_answers last physical) now × StandsFor
+    (physical_after last physical) now
+happens (access a) physical p stands = (
+  record p { device = accessed a p.device },
+  (ap (λ answer. answer ∷ []) (same_answer physical p stands a), refl),
+  access_stands physical p stands a,
+)
 happens (step s) physical p stands = (step_made s p, (refl, refl), step_stands physical p stands s)
 happens (destage n) physical p stands = (p, (refl, refl), destage_stands physical p stands n)
 happens (cut memory) physical p stands = (
@@ -22,7 +26,8 @@ happens (cut memory) physical p stands = (
 )
 
 -- all of these
-pub plain_run : (happenings : List Happening) (physical : Physical) (p : Plain) → StandsFor physical p → HasPlainRun happenings physical p
+pub plain_run : (happenings : List Happening) (physical : Physical) (p : Plain) → StandsFor physical p
+    → HasPlainRun happenings physical p
 plain_run [] physical p stands = record { now = p; run = refl; stands = stands }
 plain_run (last ∷ earlier) physical p stands =
     let before = plain_run earlier physical p stands in

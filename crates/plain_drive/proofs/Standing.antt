@@ -14,7 +14,8 @@ use Rattle.ata_taskfile.proofs.Cells.{accessed-cells}
 use Rattle.plain_drive.proofs.Shared.{accessed_shared, answer_shared, acts_shared, change_shared, step_shared}
 
 -- a drive that keeps this stands for a plain one that differs in its cells alone, where these are ends
-stands_from : (k : Kept) (q p : Plain) (cells : List Cell) → q ≡ with_cells cells p → AreEndsOf (cells_of k) p.device.cells → StandsFor (keeping k q) p
+stands_from : (k : Kept) (q p : Plain) (cells : List Cell) → q ≡ with_cells cells p
+    → AreEndsOf (cells_of k) p.device.cells → StandsFor (keeping k q) p
 stands_from k q p cells same ends = record {
   file = ap (λ (r : Plain). r.device.file) same;
   bus = ap (λ (r : Plain). r.device.bus) same;
@@ -60,21 +61,28 @@ module _ (physical : Physical) (p : Plain) (stands : StandsFor physical p) where
   pub durable_are_outcome : IsOutcome p.device.cells physical.kept.durable
   durable_are_outcome = ends-outcome 0 physical.kept.cache.entries physical.kept.durable p.device.cells stands.cells
 
-  pub access_stands : (a : Access) → StandsFor (physical_accessed a physical) (record p { device = accessed a p.device })
+  pub access_stands : (a : Access) → StandsFor (physical_accessed a physical)
+      (record p { device = accessed a p.device })
   access_stands a =
       let cells = cells_of physical.kept in
-      let accesses : record (seen physical) { device = accessed a (seen physical).device } ≡ with_cells cells (record p { device = accessed a p.device })
-      = ap (λ (r : Plain). record r { device = accessed a r.device }) seen_as ∙ ap (λ d. record p { device = d }) (accessed_shared cells a p.device) in
-      stands_from physical.kept (record (seen physical) { device = accessed a (seen physical).device }) (record p { device = accessed a p.device }) cells accesses
+      let accesses : record (seen physical) { device = accessed a (seen physical).device } ≡ with_cells cells
+      (record p { device = accessed a p.device })
+      = ap (λ (r : Plain). record r { device = accessed a r.device }) seen_as ∙ ap (λ d. record p { device = d })
+      (accessed_shared cells a p.device) in
+      stands_from physical.kept (record (seen physical) { device = accessed a (seen physical).device })
+      (record p { device = accessed a p.device }) cells accesses
       (subst (λ c. AreEndsOf cells c) (sym (accessed-cells a p.device)) stands.cells)
 
   pub step_stands : (s : Step) → StandsFor (physical_step s physical) (step_made s p)
   step_stands s =
       let cells = cells_of physical.kept in
-      let same = ap (step_made s) seen_as ∙ step_shared cells p (λ sector. ends-current cells p.device.cells sector stands.cells) s in
-      let changed = subst (λ change. AreEndsOf (cells_of (kept_after change physical.kept)) (cells_after (change_made s p) p.device.cells))
+      let same = ap (step_made s) seen_as ∙ step_shared cells p
+      (λ sector. ends-current cells p.device.cells sector stands.cells) s in
+      let changed = subst (λ change. AreEndsOf (cells_of (kept_after change physical.kept))
+      (cells_after (change_made s p) p.device.cells))
       (sym (same_change s)) (changed_ends (change_made s p) physical.kept p.device.cells stands.cells) in
-      stands_from (kept_after (change_made s (seen physical)) physical.kept) (step_made s (seen physical)) (step_made s p)
+      stands_from (kept_after (change_made s (seen physical)) physical.kept) (step_made s (seen physical))
+      (step_made s p)
       (cells_after (change_made s p) cells) same changed
 
   pub destage_stands : (n : ℕ) → StandsFor (physical_destaged n physical) p
@@ -87,6 +95,15 @@ module _ (physical : Physical) (p : Plain) (stands : StandsFor physical p) where
     cells = destaged_ends n physical.kept p.device.cells stands.cells;
   }
 
-  pub cut_stands : (memory : List ℕ) → StandsFor (physical_cut memory physical) (drive_at_power_on physical.kept.durable p.device.sectors memory)
+  pub cut_stands : (memory : List ℕ) → StandsFor (physical_cut memory physical)
+      (drive_at_power_on physical.kept.durable p.device.sectors memory)
   cut_stands memory =
-      record { file = refl; bus = refl; block = refl; sectors = stands.sectors; memory = refl; cells = durable_alone_ends physical.kept.durable }
+      record {
+        file = refl;
+        bus = refl;
+        block = refl;
+        sectors = stands.sectors;
+        memory = refl;
+        cells =
+            durable_alone_ends physical.kept.durable;
+      }

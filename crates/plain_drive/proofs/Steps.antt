@@ -27,7 +27,8 @@ no_step true true idle = absurd cc
 no_step false walks idle = absurd cc
 
 -- without a walk the bus master waits, and nothing changes
-module _ (order : Request) (done : ℕ) (p : Plain) (e : p.device.file.phase ≡ Busy (Good order) done) (still : is_walking p.device ≡ false) where
+module _ (order : Request) (done : ℕ) (p : Plain) (e : p.device.file.phase ≡ Busy (Good order) done)
+    (still : is_walking p.device ≡ false) where
   waits : outcome p.device.bus p.memory ≡ Waiting
   waits = ap (λ walk. outcome_in walk p.device.bus.pointer p.memory) (no_walk p.device.bus.walk still)
 
@@ -38,11 +39,20 @@ module _ (order : Request) (done : ℕ) (p : Plain) (e : p.device.file.phase ≡
   phase_stays = ap (λ moved. Busy (Good order) (position_after moved done)) waits ∙ sym e
 
   walked_no : walked order done p ≡ p
-  walked_no = λ i. record p { device = record p.device { file = record p.device.file { phase = phase_stays i }; bus = bus_stays i } }
+  walked_no = λ i. record p {
+    device = record p.device {
+      file = record p.device.file { phase = phase_stays i };
+      bus =
+          bus_stays i;
+    };
+  }
 
   sector_given_no : sector_given order done p ≡ p
   sector_given_no =
-      ap (λ moved. record (walked order done p) { memory = memory_after moved (places_next p.device.bus p.memory) (sector_value (order.first + done) p.device) p.memory }) waits
+      ap (λ moved. record (walked order done p) {
+        memory = memory_after moved (places_next p.device.bus p.memory)
+            (sector_value (order.first + done) p.device) p.memory;
+      }) waits
       ∙ walked_no
 
 -- an order that makes no step
@@ -53,12 +63,14 @@ proceeded_no PioIn order done p e idle = absurd cc
 proceeded_no PioOut order done p e idle = absurd cc
 proceeded_no DmaIn order done p e idle =
     let no = no_step (nat_lt done order.count) (is_walking p.device) idle in
-    ap (λ more. if more then sector_given order done p else transferred order p) no.0 ∙ sector_given_no order done p e no.1
+    ap (λ more. if more then sector_given order done p else transferred order p) no.0
+    ∙ sector_given_no order done p e no.1
 proceeded_no DmaOut order done p e idle =
     let no = no_step (nat_lt done order.count) (is_walking p.device) idle in
     ap (λ more. if more then walked order done p else transferred order p) no.0 ∙ walked_no order done p e no.1
 
-stepped_no : (phase : Phase) (p : Plain) → p.device.file.phase ≡ phase → acts_in step.Good phase p ≡ false → stepped phase p ≡ p
+stepped_no : (phase : Phase) (p : Plain) → p.device.file.phase ≡ phase → acts_in step.Good phase p ≡ false
+    → stepped phase p ≡ p
 stepped_no Reset p e idle = grind arith
 stepped_no Idle p e idle = refl
 stepped_no (Ready taken done left) p e idle = refl
@@ -73,7 +85,8 @@ failed_no (Busy (Bad reason) done) p idle = absurd cc
 failed_no (Busy (Good order) done) p idle = absurd cc
 
 -- nor does it change a sector
-proceeded_leaves : (form : Form) (order : Request) (done : ℕ) (p : Plain) → proceeds form order done p.device ≡ false → change_proceeded form order done p ≡ leaves
+proceeded_leaves : (form : Form) (order : Request) (done : ℕ) (p : Plain) → proceeds form order done p.device ≡ false
+    → change_proceeded form order done p ≡ leaves
 proceeded_leaves NoMove order done p idle = absurd cc
 proceeded_leaves PioIn order done p idle = refl
 proceeded_leaves PioOut order done p idle = absurd cc
@@ -82,7 +95,8 @@ proceeded_leaves DmaOut order done p idle =
     let no = no_step (nat_lt done order.count) (is_walking p.device) idle in
     ap (λ more. if more then change_walked order done p else leaves) no.0
     ∙ ap (λ walk. change_moved (outcome_in walk p.device.bus.pointer p.memory) (order.first + done)
-    (sector_after (outcome_in walk p.device.bus.pointer p.memory) (places_next p.device.bus p.memory) p.memory [])) (no_walk p.device.bus.walk no.1)
+    (sector_after (outcome_in walk p.device.bus.pointer p.memory) (places_next p.device.bus p.memory) p.memory []))
+    (no_walk p.device.bus.walk no.1)
 
 stepped_leaves : (phase : Phase) (p : Plain) → acts_in step.Good phase p ≡ false → change_in phase p ≡ leaves
 stepped_leaves Reset p idle = refl

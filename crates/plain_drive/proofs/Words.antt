@@ -52,7 +52,8 @@ read_words (suc (suc n)) d order done e g whole most =
 
 -- a word is taken behind those that are there
 word_taken-block : (phase : Phase) (order : Request) (done left w : ℕ) (block : List ℕ)
-    → phase ≡ Ready (Good order) done left → takes_words order.form ≡ true → block_after_write w phase block ≡ block ++ w ∷ []
+    → phase ≡ Ready (Good order) done left → takes_words order.form ≡ true
+    → block_after_write w phase block ≡ block ++ w ∷ []
 word_taken-block phase order done left w block e takes = grind arith
 
 -- one word less is wanted, while there are more
@@ -63,7 +64,8 @@ one_wanted_less phase order done n e takes = grind arith
 
 -- after the last word the drive is at work
 last_wanted : (phase : Phase) (order : Request) (done : ℕ)
-    → phase ≡ Ready (Good order) done 1 → takes_words order.form ≡ true → phase_after_write phase ≡ Busy (Good order) (done + 1)
+    → phase ≡ Ready (Good order) done 1 → takes_words order.form ≡ true
+    → phase_after_write phase ≡ Busy (Good order) (done + 1)
 last_wanted phase order done e takes = grind arith
 
 -- the words written come behind the block, and end it
@@ -72,12 +74,20 @@ pub written_words : (words : List ℕ) (w : ℕ) (d : Device) (order : Request) 
     → IsWritten (after_written (w ∷ words) d) (d.block ++ w ∷ words) order done
 unfolding after_written
 written_words [] w d order done e takes =
-    record { block = word_taken-block d.file.phase order done 1 w d.block e takes; phase = last_wanted d.file.phase order done e takes }
+    record {
+      block = word_taken-block d.file.phase order done 1 w d.block e takes;
+      phase =
+          last_wanted d.file.phase order done e takes;
+    }
 written_words (v ∷ words) w d order done e takes =
     let less = one_wanted_less d.file.phase order done (length words) e takes in
     let here = word_taken-block d.file.phase order done (suc (suc (length words))) w d.block e takes in
     let rest = written_words words v (after_write_word w d) order done less takes in
-    record { block = rest.block ∙ ap (λ b. b ++ v ∷ words) here ∙ append_assoc d.block (w ∷ []) (v ∷ words); phase = rest.phase }
+    record {
+      block = rest.block ∙ ap (λ b. b ++ v ∷ words) here ∙ append_assoc d.block (w ∷ []) (v ∷ words);
+      phase =
+          rest.phase;
+    }
 
 -- so many words of IDENTIFY DEVICE
 pub identity-length : (n sectors : ℕ) → length (identity_front n sectors) ≡ n

@@ -63,7 +63,8 @@ IsPlainRun start (last ∷ earlier) (answers ∷ rest) now =
 
 -- a plain run with the answers of a physical drive, which leads to a plain one for which that
 -- stands then
-pub record HasPlainRun (happenings : List Happening) (physical : Physical) (start : Plain) : Type 0 where
+pub record HasPlainRun (happenings : List Happening) (physical : Physical)
+    (start : Plain) : Type 0 where
   pub now : Plain
   pub run : IsPlainRun start happenings (all_answers happenings physical) now
   pub stands : StandsFor (physical_ran happenings physical) now

@@ -50,7 +50,8 @@ module _ (Q : ℕ → List ℕ → Type 0) where
   AllEntries entries = All (λ (e : Entry). Q e.sector e.bytes) entries
 
   -- one entry becomes durable
-  made_holds : (e : Entry) (durable : List (List ℕ)) → Q e.sector e.bytes → AllHold durable → AllHold (made_durable e durable)
+  made_holds : (e : Entry) (durable : List (List ℕ)) → Q e.sector e.bytes → AllHold durable
+      → AllHold (made_durable e durable)
   made_holds e durable one all s below =
       let within : s < length durable = omega (arith, length-set durable e.sector e.bytes) in
       elim (cases_eq s e.sector) [
@@ -61,11 +62,14 @@ module _ (Q : ℕ → List ℕ → Type 0) where
         | inr apart ↦ subst (Q s) (sym (get_or-set_other durable e.sector s e.bytes [] apart)) (all s within)
       ]
 
-  entry_at : (n : ℕ) (entries : List Entry) (e : Entry) → slice_get entries n ≡ Some e → AllEntries entries → Q e.sector e.bytes
+  entry_at : (n : ℕ) (entries : List Entry) (e : Entry) → slice_get entries n ≡ Some e → AllEntries entries
+      → Q e.sector e.bytes
   entry_at n entries e there all =
-      subst (λ (x : Entry). Q x.sector x.bytes) (get_or_from_slice_get entries n e e there) (all n e (slice_get_within entries n e there))
+      subst (λ (x : Entry). Q x.sector x.bytes) (get_or_from_slice_get entries n e e there)
+      (all n e (slice_get_within entries n e there))
 
-  put_holds : (o : Option Entry) (n : ℕ) (entries : List Entry) (durable : List (List ℕ)) → slice_get entries n ≡ o → AllEntries entries
+  put_holds : (o : Option Entry) (n : ℕ) (entries : List Entry) (durable : List (List ℕ)) → slice_get entries n ≡ o
+      → AllEntries entries
       → AllHold durable → AllHold (put_durable o durable)
   put_holds None n entries durable there all holds = holds
   put_holds (Some e) n entries durable there all holds = made_holds e durable (entry_at n entries e there all) holds
@@ -88,7 +92,8 @@ module _ (Q : ℕ → List ℕ → Type 0) where
       (All-drop (λ (x : Entry). Q x.sector x.bytes) (n + 1) entries all)
 
   -- room is made for an entry
-  room_holds : (full : Bool) (entries : List Entry) (durable : List (List ℕ)) (e : Entry) (room : ℕ) → AllEntries entries
+  room_holds : (full : Bool) (entries : List Entry) (durable : List (List ℕ)) (e : Entry) (room : ℕ)
+      → AllEntries entries
       → AllHold durable → Q e.sector e.bytes
       → Holds Q (record {
         durable = put_durable (if full then slice_get entries 0 else None) durable;
@@ -106,7 +111,8 @@ module _ (Q : ℕ → List ℕ → Type 0) where
   pub after_holds : (change : Change) (k : Kept) → Writes Q change → Holds Q k → Holds Q (kept_after change k)
   after_holds leaves k one holds = holds
   after_holds (writes s value) k one holds =
-      room_holds (is_full k.cache) k.cache.entries k.durable (entry_of s value) k.cache.room holds.entries holds.durable one
+      room_holds (is_full k.cache) k.cache.entries k.durable (entry_of s value) k.cache.room holds.entries
+      holds.durable one
   after_holds flushes k one holds = record {
     entries = All-nil (λ (x : Entry). Q x.sector x.bytes);
     durable = all_holds k.cache.entries k.durable holds.entries holds.durable;
@@ -132,13 +138,16 @@ module _ (Q : ℕ → List ℕ → Type 0) where
       elim (cases_eq e.sector s) [
         | inl same ↦
             let values : values_of s (e ∷ entries) ≡ values_of s entries ++ e.bytes ∷ []
-            = subst (λ i. values_of i (e ∷ entries) ≡ values_of i entries ++ e.bytes ∷ []) same (oldest_own e entries) in
-            subst (All (Q s)) (sym values) (All-push (Q s) (values_of s entries) e.bytes rest (subst (λ i. Q i e.bytes) same first))
+            = subst (λ i. values_of i (e ∷ entries) ≡ values_of i entries ++ e.bytes ∷ []) same
+            (oldest_own e entries) in
+            subst (All (Q s)) (sym values) (All-push (Q s) (values_of s entries) e.bytes rest
+            (subst (λ i. Q i e.bytes) same first))
         | inr apart ↦ subst (All (Q s)) (sym (oldest_another e entries s apart)) rest
       ]
 
   -- and so of the current one
-  first_holds : (s : ℕ) (written : List (List ℕ)) (value : List ℕ) → All (Q s) written → Q s value → Q s (slice_index_or written 0 value)
+  first_holds : (s : ℕ) (written : List (List ℕ)) (value : List ℕ) → All (Q s) written → Q s value
+      → Q s (slice_index_or written 0 value)
   first_holds s [] value all one = one
   first_holds s (newest ∷ written) value all one = All-head (Q s) newest written all
 

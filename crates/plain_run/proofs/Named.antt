@@ -22,16 +22,19 @@ use Rattle.plain_run.proofs.Sound.{IsSound, event_sound, fresh_sound}
 abbrev Whole : ℕ → List ℕ → Type 0
 Whole s value = length value ≡ 512
 
-sound_run : (start now : Physical) (entries : List Entry) → IsSound Whole start → IsDriveRun start entries now → IsSound Whole now
+sound_run : (start now : Physical) (entries : List Entry) → IsSound Whole start → IsDriveRun start entries now
+    → IsSound Whole now
 sound_run start now [] sound run = subst (IsSound Whole) (sym run) sound
 sound_run start now (entry ∷ earlier) sound (before, run, last) =
     subst (IsSound Whole) (sym last.after)
-    (event_sound Whole (λ s value one. one) entry.event before (λ s value one. one.0) (sound_run start before earlier sound run))
+    (event_sound Whole (λ s value one. one) entry.event before (λ s value one. one.0)
+    (sound_run start before earlier sound run))
 
 -- of the items only commands name a sector
 commands_name : (s : ℕ) (items : List Item) → items_name s (commands_in items) ≡ items_name s items
 commands_name s [] = refl
-commands_name s (item.Command byte first count ∷ items) = ap (λ rest. names_write s (item.Command byte first count) || rest)
+commands_name s (item.Command byte first count ∷ items) =
+    ap (λ rest. names_write s (item.Command byte first count) || rest)
     (commands_name s items)
 commands_name s (one ∷ items) = commands_name s items
 
@@ -57,14 +60,20 @@ module _ (s : ℕ) (value : List ℕ) where
     sound : IsSound Same q
     away : aims_in s q.file.phase ≡ false
 
-  untouched_event : (entry : Entry) (q : Physical) → DriveEvent q entry (physical_event entry.event q) → items_name s entry.items ≡ false
+  untouched_event : (entry : Entry) (q : Physical) → DriveEvent q entry (physical_event entry.event q)
+      → items_name s entry.items ≡ false
       → IsUntouched q → IsUntouched (physical_event entry.event q)
   untouched_event entry q one unnamed was =
       let elsewhere : aims_in s q.file.phase ≡ true → ⊥ = λ aims. cc (was.away, aims) in
       record {
         sound = event_sound Same (λ at found one. one.0) entry.event q
-            (λ at found one. (one.0, λ same. absurd (elsewhere (subst (λ i. aims_in i q.file.phase ≡ true) same one.1)))) was.sound;
-        away = event_away s entry.event q was.away (ap (items_name s) (sym one.commands) ∙ commands_name s entry.items ∙ unnamed);
+            (λ at found one. (
+              one.0,
+              λ same. absurd
+                  (elsewhere (subst (λ i. aims_in i q.file.phase ≡ true) same one.1)),
+            )) was.sound;
+        away = event_away s entry.event q was.away (ap (items_name s) (sym one.commands) ∙ commands_name s entry.items
+            ∙ unnamed);
       }
 
   untouched_run : (start now : Physical) (entries : List Entry) → is_named s entries ≡ false → IsUntouched start

@@ -27,7 +27,8 @@ item_commands : (byte : ℕ) (order : Taken) → AreCommands (command_item byte 
 item_commands byte (Bad reason) = record { answers = λ _. refl; plan = refl; commands = refl }
 item_commands byte (Good order) = by_range (has_range order.kind)
   where
-    by_range : (ranged : Bool) → AreCommands ((if ranged then item.Command byte order.first order.count else item.Command byte 0 0) ∷ [])
+    by_range : (ranged : Bool) → AreCommands
+        ((if ranged then item.Command byte order.first order.count else item.Command byte 0 0) ∷ [])
     by_range true = record { answers = λ _. refl; plan = refl; commands = refl }
     by_range false = record { answers = λ _. refl; plan = refl; commands = refl }
 
@@ -59,19 +60,24 @@ commands_behind (one ∷ items) last none = commands_behind items last none
 -- the item of a command that was just taken is no answer, no plan item and the one command
 pub answers_noted : (items : List Item) (byte : ℕ) (phase : Phase) (bytes : List ℕ)
     → answers_in (items ++ just_taken byte phase) bytes ≡ answers_in items bytes
-answers_noted items byte phase bytes = answers_behind items (just_taken byte phase) bytes ((just_commands byte phase).answers bytes)
+answers_noted items byte phase bytes = answers_behind items (just_taken byte phase) bytes
+    ((just_commands byte phase).answers bytes)
 
-pub plan_noted : (items : List Item) (byte : ℕ) (phase : Phase) → plan_in (items ++ just_taken byte phase) ≡ plan_in items
+pub plan_noted : (items : List Item) (byte : ℕ) (phase : Phase)
+    → plan_in (items ++ just_taken byte phase) ≡ plan_in items
 plan_noted items byte phase = plan_behind items (just_taken byte phase) (just_commands byte phase).plan
 
 pub commands_noted : (items : List Item) (byte : ℕ) (phase : Phase) → commands_in items ≡ []
     → commands_in (items ++ just_taken byte phase) ≡ just_taken byte phase
-commands_noted items byte phase none = commands_behind items (just_taken byte phase) none ∙ (just_commands byte phase).commands
+commands_noted items byte phase none = commands_behind items (just_taken byte phase) none
+    ∙ (just_commands byte phase).commands
 
 -- an event of a physical drive that takes a command notes its item
-pub drive_event_noted : (one : Event) (items : List Item) (bytes : List ℕ) (q new : Physical) → new ≡ physical_event one q
+pub drive_event_noted : (one : Event) (items : List Item) (bytes : List ℕ) (q new : Physical)
+    → new ≡ physical_event one q
     → answers_in items bytes ≡ answer_to one (seen q) → plan_in items ≡ plan_due one (seen q) → commands_in items ≡ []
-    → is_fresh q.file.phase ≡ false → DriveEvent q (entry_of one (items ++ just_taken new.file.command new.file.phase) bytes) new
+    → is_fresh q.file.phase ≡ false
+    → DriveEvent q (entry_of one (items ++ just_taken new.file.command new.file.phase) bytes) new
 drive_event_noted one items bytes q new after answered planned none before = record {
   after = after;
   answered = answers_noted items new.file.command new.file.phase bytes ∙ answered;
@@ -80,7 +86,8 @@ drive_event_noted one items bytes q new after answered planned none before = rec
 }
 
 -- where one was just taken before, none is noted
-pub drive_event_unnoted : (one : Event) (items : List Item) (bytes : List ℕ) (q new : Physical) → new ≡ physical_event one q
+pub drive_event_unnoted : (one : Event) (items : List Item) (bytes : List ℕ) (q new : Physical)
+    → new ≡ physical_event one q
     → answers_in items bytes ≡ answer_to one (seen q) → plan_in items ≡ plan_due one (seen q) → commands_in items ≡ []
     → is_fresh q.file.phase ≡ true → DriveEvent q (entry_of one items bytes) new
 drive_event_unnoted one items bytes q new after answered planned none before =

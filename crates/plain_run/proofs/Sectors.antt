@@ -38,7 +38,8 @@ written_sectors [] d = refl
 written_sectors (w ∷ words) d = written_sectors words (after_write_word w d)
 
 -- nor does a step
-chosen_sectors : (b : Bool) (n : ℕ) (p q : Plain) → p.device.sectors ≡ n → q.device.sectors ≡ n → (if b then p else q).device.sectors ≡ n
+chosen_sectors : (b : Bool) (n : ℕ) (p q : Plain) → p.device.sectors ≡ n → q.device.sectors ≡ n
+    → (if b then p else q).device.sectors ≡ n
 chosen_sectors true n p q one other = one
 chosen_sectors false n p q one other = other
 
@@ -46,7 +47,8 @@ walk_sectors : (form : Form) (p : Plain) → (without_walk form p).device.sector
 walk_sectors form p = chosen_sectors (moves_by_bus form) p.device.sectors
     (record p { device = with_bus (walk_ended p.device.bus) p.device }) p refl refl
 
-proceeded_sectors : (form : Form) (order : Request) (done : ℕ) (p : Plain) → (proceeded form order done p).device.sectors ≡ p.device.sectors
+proceeded_sectors : (form : Form) (order : Request) (done : ℕ) (p : Plain)
+    → (proceeded form order done p).device.sectors ≡ p.device.sectors
 proceeded_sectors NoMove order done p = refl
 proceeded_sectors PioIn order done p = refl
 proceeded_sectors PioOut order done p =
@@ -56,7 +58,8 @@ proceeded_sectors DmaIn order done p =
     chosen_sectors (nat_lt done order.count) p.device.sectors (sector_given order done p) (transferred order p) refl
     (walk_sectors order.form p)
 proceeded_sectors DmaOut order done p =
-    chosen_sectors (nat_lt done order.count) p.device.sectors (walked order done p) (transferred order p) refl (walk_sectors order.form p)
+    chosen_sectors (nat_lt done order.count) p.device.sectors (walked order done p) (transferred order p) refl
+    (walk_sectors order.form p)
 
 stepped_sectors : (phase : Phase) (p : Plain) → (stepped phase p).device.sectors ≡ p.device.sectors
 stepped_sectors Reset p = chosen_sectors (holds_reset p.device.file) p.device.sectors p
@@ -92,13 +95,16 @@ event_length (event.Destage k) q = destaged_length k q.kept
 event_length one q = refl
 
 -- so a run has as many sectors at its end as at its start
-pub run_sectors : (start now : Physical) (entries : List Entry) → IsDriveRun start entries now → now.sectors ≡ start.sectors
+pub run_sectors : (start now : Physical) (entries : List Entry) → IsDriveRun start entries now
+    → now.sectors ≡ start.sectors
 run_sectors start now [] run = ap (λ (q : Physical). q.sectors) run
 run_sectors start now (entry ∷ earlier) (before, run, last) =
-    ap (λ (q : Physical). q.sectors) last.after ∙ event_sectors entry.event before ∙ run_sectors start before earlier run
+    ap (λ (q : Physical). q.sectors) last.after ∙ event_sectors entry.event before
+    ∙ run_sectors start before earlier run
 
 pub run_length : (start now : Physical) (entries : List Entry) → IsDriveRun start entries now
     → length now.kept.durable ≡ length start.kept.durable
 run_length start now [] run = ap (λ (q : Physical). length q.kept.durable) run
 run_length start now (entry ∷ earlier) (before, run, last) =
-    ap (λ (q : Physical). length q.kept.durable) last.after ∙ event_length entry.event before ∙ run_length start before earlier run
+    ap (λ (q : Physical). length q.kept.durable) last.after ∙ event_length entry.event before
+    ∙ run_length start before earlier run

@@ -60,17 +60,20 @@ module _ (Q : ℕ → List ℕ → Type 0) (whole : (s : ℕ) (value : List ℕ)
   event_lawful event.Cut q sound = power_lawful (cells_of (kept_cut q.kept)) q.sectors
   event_lawful one q sound = sound.lawful
 
-  event_holds : (one : Event) (q : Physical) → ((s : ℕ) (value : List ℕ) → IsAimed q.file.phase s value → Q s value) → IsSound Q q
+  event_holds : (one : Event) (q : Physical) → ((s : ℕ) (value : List ℕ) → IsAimed q.file.phase s value → Q s value)
+      → IsSound Q q
       → Holds Q (physical_event one q).kept
   event_holds (event.Drive s) q aimed sound =
       after_holds Q (change_made s (seen q)) q.kept
-      (writes_weaker (IsAimed q.file.phase) Q aimed (change_made s (seen q)) (step_aimed s (seen q) sound.lawful)) sound.kept
+      (writes_weaker (IsAimed q.file.phase) Q aimed (change_made s (seen q)) (step_aimed s (seen q) sound.lawful))
+      sound.kept
   event_holds (event.Destage k) q aimed sound = destaged_holds Q k q.kept sound.kept
   event_holds event.Cut q aimed sound = cut_holds Q q.kept sound.kept
   event_holds one q aimed sound = sound.kept
 
   -- an event keeps it, where such a value is what a step may write then
-  pub event_sound : (one : Event) (q : Physical) → ((s : ℕ) (value : List ℕ) → IsAimed q.file.phase s value → Q s value) → IsSound Q q
+  pub event_sound : (one : Event) (q : Physical) → ((s : ℕ) (value : List ℕ) → IsAimed q.file.phase s value
+      → Q s value) → IsSound Q q
       → IsSound Q (physical_event one q)
   event_sound one q aimed sound = record {
     lawful = event_lawful one q sound;

@@ -61,7 +61,8 @@ memory_stands address bytes q p stands = record {
   cells = stands.cells;
 }
 
--- where an event leads the plain drive before its step: to power-on over the sectors that are then durable, or behind its access
+-- where an event leads the plain drive before its step: to power-on over the sectors that are then durable, or behind
+-- its access
 between : Event → Physical → Plain → Plain
 between event.Cut new p = restarted new.kept.durable p
 between one new p = accessed one p
@@ -84,7 +85,8 @@ next_stands (event.WriteMemory address bytes) q p stands = memory_stands address
 next_stands (event.Drive s) q p stands = step_stands q p stands s
 next_stands (event.Destage k) q p stands = destage_stands q p stands k
 next_stands event.Cut q p stands = subst (λ memory. StandsFor (physical_event event.Cut q)
-    (drive_at_power_on q.kept.durable p.device.sectors (zeroed memory))) stands.memory (cut_stands q p stands (zeroed q.memory))
+    (drive_at_power_on q.kept.durable p.device.sectors (zeroed memory))) stands.memory
+    (cut_stands q p stands (zeroed q.memory))
 next_stands one q p stands = stands
 
 -- answers and commands are no part of a plan
@@ -112,7 +114,8 @@ module _ (q : Physical) (p : Plain) (stands : StandsFor q p) where
   reached event.Cut = (q.kept.durable, durable_are_outcome q p stands, refl)
   reached one = refl
 
-  followed : (one : Event) → FollowsPlan (plan_due one p) (between one (physical_event one q) p) (next one (physical_event one q) p)
+  followed : (one : Event) → FollowsPlan (plan_due one p) (between one (physical_event one q) p)
+      (next one (physical_event one q) p)
   unfolding between next
   followed (event.Drive s) = step_follows s p (acts s p) refl
   followed one = refl
@@ -123,24 +126,28 @@ module _ (q : Physical) (p : Plain) (stands : StandsFor q p) where
   same_plan one = refl
 
   -- after a cut the plain drive goes on with what is durable
-  cut_next : (one : Event) → is_cut one ≡ true → next one (physical_event one q) p ≡ restarted (physical_event one q).kept.durable p
+  cut_next : (one : Event) → is_cut one ≡ true → next one (physical_event one q) p ≡ restarted
+      (physical_event one q).kept.durable p
   unfolding between next
   cut_next event.Cut cuts = refl
   cut_next one cuts = absurd cc
 
   -- one event of the physical drive is one of both
   direct_event : (entry : Entry) → DriveEvent q entry (physical_event entry.event q)
-      → DirectEvent (drives p q) entry (drives (next entry.event (physical_event entry.event q) p) (physical_event entry.event q))
+      → DirectEvent (drives p q) entry (drives (next entry.event (physical_event entry.event q) p)
+      (physical_event entry.event q))
   direct_event entry one =
       let plan : plan_in entry.items ≡ plan_due entry.event p = one.planned ∙ same_plan entry.event in
       record {
         plain = record {
           between = between entry.event (physical_event entry.event q) p;
-          answered = one.answered ∙ ap (answer_to entry.event) (seen_as q p stands) ∙ answer_shared (cells_of q.kept) entry.event p;
+          answered = one.answered ∙ ap (answer_to entry.event) (seen_as q p stands)
+              ∙ answer_shared (cells_of q.kept) entry.event p;
           reached = reached entry.event;
           placed = λ still. plan ∙ placed entry.event p still;
           followed = follows entry.items _ _ (subst (λ items. FollowsPlan items
-              (between entry.event (physical_event entry.event q) p) (next entry.event (physical_event entry.event q) p))
+              (between entry.event (physical_event entry.event q) p)
+              (next entry.event (physical_event entry.event q) p))
               (sym plan) (followed entry.event));
         };
         physical = one;
@@ -153,7 +160,8 @@ record HasPlainEvent (q : Physical) (p : Plain) (entry : Entry) (new : Physical)
   both : DirectEvent (drives p q) entry (drives after new)
   stands : StandsFor new after
 
-plain_event : (entry : Entry) (q new : Physical) (p : Plain) → StandsFor q p → DriveEvent q entry new → HasPlainEvent q p entry new
+plain_event : (entry : Entry) (q new : Physical) (p : Plain) → StandsFor q p → DriveEvent q entry new
+    → HasPlainEvent q p entry new
 plain_event entry q new p stands one =
     subst (HasPlainEvent q p entry) (sym one.after) (record {
       after = next entry.event (physical_event entry.event q) p;

@@ -38,16 +38,19 @@ within_range : (first count done : ℕ) → done < count → is_within first cou
 within_range first count done more = grind arith
 
 -- no block comes behind the last one
-came_within : (f : TaskFile) (b : Bus) (words n : ℕ) (order : Request) (done : ℕ) → f.phase ≡ Busy (Good order) done → order.form ≡ PioOut
+came_within : (f : TaskFile) (b : Bus) (words n : ℕ) (order : Request) (done : ℕ) → f.phase ≡ Busy (Good order) done
+    → order.form ≡ PioOut
     → IsLawfulState f b words n → done ≤ order.count
 came_within f b words n order done e is l = grind arith
 
 -- a sector that was moved whole has all its places
-found_aimed : (phase : Phase) (s : ℕ) (places memory : List ℕ) (last ended found : Bool) → (length places == 512) ≡ found
+found_aimed : (phase : Phase) (s : ℕ) (places memory : List ℕ) (last ended found : Bool)
+    → (length places == 512) ≡ found
     → aims_in s phase ≡ true
     → Writes (IsAimed phase) (change_moved (moved_as (found_as found last ended) (length places)) s
     (sector_after (moved_as (found_as found last ended) (length places)) places memory []))
-found_aimed phase s places memory last ended true is aims = (length-map places (byte_at memory) ∙ eqb-true (length places) 512 is, aims)
+found_aimed phase s places memory last ended true is aims =
+    (length-map places (byte_at memory) ∙ eqb-true (length places) 512 is, aims)
 found_aimed phase s places memory last true false is aims = tt
 found_aimed phase s places memory last false false is aims = tt
 
@@ -60,21 +63,27 @@ walk_aimed phase s (Some moved) pointer memory aims =
     let places = sector_places moved run in
     found_aimed phase s places memory (is_tables_end moved run) run.ended (length places == 512) refl aims
 
-module _ (order : Request) (done : ℕ) (p : Plain) (e : p.device.file.phase ≡ Busy (Good order) done) (l : IsLawful p.device) where
+module _ (order : Request) (done : ℕ) (p : Plain) (e : p.device.file.phase ≡ Busy (Good order) done)
+    (l : IsLawful p.device) where
   -- an outward order brings data to each sector of its range
-  aims_within : (s : ℕ) → is_outward order.form ≡ true → is_within order.first order.count s ≡ true → aims_in s p.device.file.phase ≡ true
-  aims_within s outward within = ap (aims_in s) e ∙ and_from (is_outward order.form) (is_within order.first order.count s) outward within
+  aims_within : (s : ℕ) → is_outward order.form ≡ true → is_within order.first order.count s ≡ true
+      → aims_in s p.device.file.phase ≡ true
+  aims_within s outward within = ap (aims_in s) e ∙ and_from (is_outward order.form)
+      (is_within order.first order.count s) outward within
 
   block_aimed : order.form ≡ PioOut → (first : Bool) → (done == 0) ≡ first
-      → Writes (IsAimed p.device.file.phase) (if first then leaves else writes (order.first + (done - 1)) (bytes_of p.device.block))
+      → Writes (IsAimed p.device.file.phase) (if first then leaves else writes (order.first + (done - 1))
+      (bytes_of p.device.block))
   block_aimed is true at = tt
   block_aimed is false at =
       let some : done ≢ 0 = eqb-false done 0 at in
       let takes : takes_words order.form ≡ true = ap takes_words is in
       let came = came_within p.device.file p.device.bus (length p.device.block) p.device.sectors order done e is l in (
-        block_bytes p.device.block (block_whole p.device.file p.device.bus (length p.device.block) p.device.sectors order done e
+        block_bytes p.device.block (block_whole p.device.file p.device.bus (length p.device.block)
+            p.device.sectors order done e
             takes some l),
-        aims_within (order.first + (done - 1)) (ap is_outward is) (within_range order.first order.count (done - 1) (omega arith)),
+        aims_within (order.first + (done - 1)) (ap is_outward is)
+            (within_range order.first order.count (done - 1) (omega arith)),
       )
 
   moved_aimed : order.form ≡ DmaOut → (more : Bool) → nat_lt done order.count ≡ more
@@ -82,7 +91,8 @@ module _ (order : Request) (done : ℕ) (p : Plain) (e : p.device.file.phase ≡
   moved_aimed is false at = tt
   moved_aimed is true at =
       walk_aimed p.device.file.phase (order.first + done) p.device.bus.walk p.device.bus.pointer p.memory
-      (aims_within (order.first + done) (ap is_outward is) (within_range order.first order.count done (ltb-true done order.count at)))
+      (aims_within (order.first + done) (ap is_outward is)
+      (within_range order.first order.count done (ltb-true done order.count at)))
 
   without_data_aimed : (k : Kind) → Writes (IsAimed p.device.file.phase) (change_without_data k)
   without_data_aimed kind.Flush = tt
@@ -92,7 +102,8 @@ module _ (order : Request) (done : ℕ) (p : Plain) (e : p.device.file.phase ≡
   without_data_aimed kind.Identify = tt
   without_data_aimed kind.Features = tt
 
-  proceeded_aimed : (form : Form) → order.form ≡ form → Writes (IsAimed p.device.file.phase) (change_proceeded form order done p)
+  proceeded_aimed : (form : Form) → order.form ≡ form → Writes (IsAimed p.device.file.phase)
+      (change_proceeded form order done p)
   proceeded_aimed NoMove is = without_data_aimed order.kind
   proceeded_aimed PioIn is = tt
   proceeded_aimed PioOut is = block_aimed is (done == 0) refl

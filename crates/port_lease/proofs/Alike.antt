@@ -27,26 +27,32 @@ value_alike reg.BusStatus c f = refl
 
 -- so registers that differ in it alone, over the same bus master and line, answer alike
 alike : (f : TaskFile) (c : ℕ) (b b' : Bus) (l l' : Bool) → b' ≡ b → l' ≡ l
-    → AnswersAlike (record { file = f; bus = b; line = l }) (record { file = record f { command = c }; bus = b'; line = l' })
+    → AnswersAlike (record { file = f; bus = b; line = l })
+    (record { file = record f { command = c }; bus = b'; line = l' })
 alike f c b b' l l' same low = record {
-  registers = λ r. ap (λ x. if is_of_bus r then bus_value r x else value r (record f { command = c })) same ∙ ap (λ x. if is_of_bus r then bus_value r b else x) (value_alike r c f);
+  registers = λ r. ap (λ x. if is_of_bus r then bus_value r x else value r (record f { command = c })) same
+      ∙ ap (λ x. if is_of_bus r then bus_value r b else x) (value_alike r c f);
   pointer = ap (λ x. x.pointer) same;
   line = low;
 }
 
-given : (moves : Bool) (v : View) (b : Bus) → uses_bus v ≡ moves → bus_on_guest_side v (bus_given v b) ≡ bus_beside v.bus b
+given : (moves : Bool) (v : View) (b : Bus) → uses_bus v ≡ moves
+    → bus_on_guest_side v (bus_given v b) ≡ bus_beside v.bus b
 given true v b e = rw e refl
 given false v b e = rw e refl
 
 -- after a give
-pub give_alike : (v : View) (c : ℕ) (d e : Device) → d.file.pending ≡ false → v.file.pending ≡ false → e ≡ after_give v c d
+pub give_alike : (v : View) (c : ℕ) (d e : Device) → d.file.pending ≡ false → v.file.pending ≡ false
+    → e ≡ after_give v c d
     → AnswersAlike (seen_on_monitor_side v d) (seen_on_guest_side v e)
 give_alike v c d e low unpended is =
     let l : line (record v.file { command = c }) ≡ line d.file = rw (low, unpended) refl in
-    rw is (alike v.file c (bus_beside v.bus d.bus) (bus_on_guest_side v (bus_given v d.bus)) (line d.file) (line (record v.file { command = c })) (given (uses_bus v) v d.bus refl) l)
+    rw is (alike v.file c (bus_beside v.bus d.bus) (bus_on_guest_side v (bus_given v d.bus)) (line d.file)
+    (line (record v.file { command = c })) (given (uses_bus v) v d.bus refl) l)
 
 -- after a removal
-pub remove_alike : (v : View) (d e : Device) → d.file.pending ≡ false → v.file.pending ≡ false → v.bus.error ≡ false → e ≡ after_remove v d
+pub remove_alike : (v : View) (d e : Device) → d.file.pending ≡ false → v.file.pending ≡ false → v.bus.error ≡ false
+    → e ≡ after_remove v d
     → AnswersAlike (seen_on_monitor_side v d) (seen_of e)
 remove_alike v d e low unpended well is =
     let c = d.file.command in

@@ -38,7 +38,8 @@ unraised true b = refl
 unraised false b = refl
 
 put-file : (f : TaskFile) (d : Device) → line f ≡ line d.file → with_file f d ≡ record d { file = f }
-put-file f d same = ap (λ l. record d { file = f; bus = raised (line d.file) l d.bus }) same ∙ ap (λ b. record d { file = f; bus = b }) (unraised (line d.file) d.bus)
+put-file f d same = ap (λ l. record d { file = f; bus = raised (line d.file) l d.bus }) same
+    ∙ ap (λ b. record d { file = f; bus = b }) (unraised (line d.file) d.bus)
 
 -- such a write as it is seen from outside
 plain_write : (r : Reg) (v : ℕ) (d : Device) (work : Bool) → is_plain_register r ≡ true → is_at_work d.file.phase ≡ work
@@ -49,12 +50,18 @@ plain_write reg.Low v d true plain is = rw is refl
 plain_write reg.Mid v d true plain is = rw is refl
 plain_write reg.High v d true plain is = rw is refl
 plain_write reg.Device v d true plain is = rw is refl
-plain_write reg.Error v d false plain is = rw is (put-file (stored reg.Error v d.file) d (stored-line reg.Error v d.file refl))
-plain_write reg.Count v d false plain is = rw is (put-file (stored reg.Count v d.file) d (stored-line reg.Count v d.file refl))
-plain_write reg.Low v d false plain is = rw is (put-file (stored reg.Low v d.file) d (stored-line reg.Low v d.file refl))
-plain_write reg.Mid v d false plain is = rw is (put-file (stored reg.Mid v d.file) d (stored-line reg.Mid v d.file refl))
-plain_write reg.High v d false plain is = rw is (put-file (stored reg.High v d.file) d (stored-line reg.High v d.file refl))
-plain_write reg.Device v d false plain is = rw is (put-file (stored reg.Device v d.file) d (stored-line reg.Device v d.file refl))
+plain_write reg.Error v d false plain is =
+    rw is (put-file (stored reg.Error v d.file) d (stored-line reg.Error v d.file refl))
+plain_write reg.Count v d false plain is =
+    rw is (put-file (stored reg.Count v d.file) d (stored-line reg.Count v d.file refl))
+plain_write reg.Low v d false plain is =
+    rw is (put-file (stored reg.Low v d.file) d (stored-line reg.Low v d.file refl))
+plain_write reg.Mid v d false plain is =
+    rw is (put-file (stored reg.Mid v d.file) d (stored-line reg.Mid v d.file refl))
+plain_write reg.High v d false plain is =
+    rw is (put-file (stored reg.High v d.file) d (stored-line reg.High v d.file refl))
+plain_write reg.Device v d false plain is =
+    rw is (put-file (stored reg.Device v d.file) d (stored-line reg.Device v d.file refl))
 plain_write reg.Status v d work plain is = cc
 plain_write reg.Alternate v d work plain is = cc
 plain_write reg.BusCommand v d work plain is = cc
@@ -64,7 +71,8 @@ pub plainly : (r : Reg) (v : ℕ) (d : Device) → is_plain_register r ≡ true 
 plainly r v d plain = plain_write r v d (is_at_work d.file.phase) plain refl
 
 -- such a write where the drive was asked before whether it is at work
-cleared-stored : (r : Reg) (v : ℕ) (f : TaskFile) → is_plain_register r ≡ true → stored r v (hob_cleared f) ≡ stored r v f
+cleared-stored : (r : Reg) (v : ℕ) (f : TaskFile) → is_plain_register r ≡ true
+    → stored r v (hob_cleared f) ≡ stored r v f
 cleared-stored reg.Error v f plain = ap (λ c. record f { control = c; features = v }) (twice f.control)
 cleared-stored reg.Count v f plain = ap (λ c. record (stored reg.Count v f) { control = c }) (twice f.control)
 cleared-stored reg.Low v f plain = ap (λ c. record (stored reg.Low v f) { control = c }) (twice f.control)
@@ -76,11 +84,14 @@ cleared-stored reg.Alternate v f plain = cc
 cleared-stored reg.BusCommand v f plain = cc
 cleared-stored reg.BusStatus v f plain = cc
 
-asked-written : (r : Reg) (v : ℕ) (d : Device) (work absent : Bool) → is_plain_register r ≡ true → is_at_work d.file.phase ≡ work
-    → plainly_written r v (if absent && not work then record d { file = hob_cleared d.file } else d) ≡ plainly_written r v d
+asked-written : (r : Reg) (v : ℕ) (d : Device) (work absent : Bool) → is_plain_register r ≡ true
+    → is_at_work d.file.phase ≡ work
+    → plainly_written r v (if absent && not work then record d { file = hob_cleared d.file } else d) ≡ plainly_written
+    r v d
 asked-written r v d work false plain is = refl
 asked-written r v d true true plain is = refl
 asked-written r v d false true plain is = rw is (ap (λ f. record d { file = f }) (cleared-stored r v d.file plain))
 
-pub asked_written : (r : Reg) (v : ℕ) (d : Device) → is_plain_register r ≡ true → plainly_written r v (asked d) ≡ plainly_written r v d
+pub asked_written : (r : Reg) (v : ℕ) (d : Device) → is_plain_register r ≡ true
+    → plainly_written r v (asked d) ≡ plainly_written r v d
 asked_written r v d plain = asked-written r v d (is_at_work d.file.phase) (selects_absent d.file) plain refl

@@ -18,7 +18,8 @@ use Rattle.port_lease.specs.View.{IsKept, IsGiven}
 use Rattle.port_lease.specs.Free.{is_free}
 
 module _ (v : View) where
-  proceeded-kept : (form : Form) (order : Request) (done : ℕ) (p : Plain) → p.device.file.phase ≡ Busy (Good order) done → IsKept v p.device.file
+  proceeded-kept : (form : Form) (order : Request) (done : ℕ) (p : Plain)
+      → p.device.file.phase ≡ Busy (Good order) done → IsKept v p.device.file
       → IsKept v (proceeded form order done p).device.file
   proceeded-kept NoMove order done p e k = grind arith
   proceeded-kept PioIn order done p e k = grind arith
@@ -26,14 +27,16 @@ module _ (v : View) where
   proceeded-kept DmaIn order done p e k = grind arith
   proceeded-kept DmaOut order done p e k = grind arith
 
-  stepped-kept : (phase : Phase) (p : Plain) → p.device.file.phase ≡ phase → IsKept v p.device.file → IsKept v (stepped phase p).device.file
+  stepped-kept : (phase : Phase) (p : Plain) → p.device.file.phase ≡ phase → IsKept v p.device.file
+      → IsKept v (stepped phase p).device.file
   stepped-kept Reset p e k = grind arith
   stepped-kept Idle p e k = k
   stepped-kept (Ready taken done left) p e k = k
   stepped-kept (Busy (Bad reason) done) p e k = grind arith
   stepped-kept (Busy (Good order) done) p e k = proceeded-kept order.form order done p e k
 
-  failed-kept : (phase : Phase) (p : Plain) → p.device.file.phase ≡ phase → IsKept v p.device.file → IsKept v (failed_step phase p).device.file
+  failed-kept : (phase : Phase) (p : Plain) → p.device.file.phase ≡ phase → IsKept v p.device.file
+      → IsKept v (failed_step phase p).device.file
   failed-kept Reset p e k = k
   failed-kept Idle p e k = k
   failed-kept (Ready taken done left) p e k = k
@@ -45,7 +48,8 @@ module _ (v : View) where
   step-kept step.Bad p k = failed-kept p.device.file.phase p refl k
 
 -- a step begins no order of the bus master's
-proceeded-moves : (form : Form) (order : Request) (done : ℕ) (p : Plain) → p.device.file.phase ≡ Busy (Good order) done → moves_by_bus order.form ≡ false
+proceeded-moves : (form : Form) (order : Request) (done : ℕ) (p : Plain)
+    → p.device.file.phase ≡ Busy (Good order) done → moves_by_bus order.form ≡ false
     → moves_by_bus form ≡ false → is_moving (proceeded form order done p).device.file.phase ≡ false
 proceeded-moves NoMove order done p e calm is = refl
 proceeded-moves PioIn order done p e calm is = refl
@@ -53,14 +57,16 @@ proceeded-moves PioOut order done p e calm is = grind arith
 proceeded-moves DmaIn order done p e calm is = cc
 proceeded-moves DmaOut order done p e calm is = cc
 
-stepped-moves : (phase : Phase) (p : Plain) → p.device.file.phase ≡ phase → is_moving phase ≡ false → is_moving (stepped phase p).device.file.phase ≡ false
+stepped-moves : (phase : Phase) (p : Plain) → p.device.file.phase ≡ phase → is_moving phase ≡ false
+    → is_moving (stepped phase p).device.file.phase ≡ false
 stepped-moves Reset p e calm = grind arith
 stepped-moves Idle p e calm = rw e refl
 stepped-moves (Ready taken done left) p e calm = rw e refl
 stepped-moves (Busy (Bad reason) done) p e calm = refl
 stepped-moves (Busy (Good order) done) p e calm = proceeded-moves order.form order done p e calm calm
 
-failed-moves : (phase : Phase) (p : Plain) → p.device.file.phase ≡ phase → is_moving phase ≡ false → is_moving (failed_step phase p).device.file.phase ≡ false
+failed-moves : (phase : Phase) (p : Plain) → p.device.file.phase ≡ phase → is_moving phase ≡ false
+    → is_moving (failed_step phase p).device.file.phase ≡ false
 failed-moves Reset p e calm = rw e refl
 failed-moves Idle p e calm = rw e refl
 failed-moves (Ready taken done left) p e calm = rw e refl

@@ -6,7 +6,8 @@ use Rattle.ata_taskfile.specs.TaskFile.{has_bit, status}
 
 -- the drive shows neither BSY nor DRQ nor DEV (ATA/ATAPI-6, Status and Device registers)
 abbrev pub shows_rest : TaskFile → Bool
-shows_rest f = not (has_bit BSY (status f)) && not (has_bit DRQ (status f)) && not (has_bit DEV f.device)
+shows_rest f =
+    not (has_bit BSY (status f)) && not (has_bit DRQ (status f)) && not (has_bit DEV f.device)
 
 -- and no interrupt of it pends, so that the monitor may have it (own)
 abbrev pub is_free : TaskFile → Bool

@@ -45,7 +45,8 @@ after_take d = with_bus (walk_stopped d.bus) d
 
 -- the view stands at the start of the command's order, on a drive of so many sectors
 abbrev pub IsOrdered : View → ℕ → ℕ → Type 0
-IsOrdered v command sectors = v.file.phase ≡ Busy (taken (order_of command (inputs v.file) sectors)) 0
+IsOrdered v command sectors =
+    v.file.phase ≡ Busy (taken (order_of command (inputs v.file) sectors)) 0
 
 -- the drive's bus master after a give: the view's where the command uses it, with the drive's own error
 -- and interrupt bits
@@ -54,7 +55,8 @@ bus_given v b = if uses_bus v then record v.bus { error = b.error; interrupt = b
 
 -- the drive after a give: it is at work on the command, over the registers of the view
 abbrev pub after_give : View → ℕ → Device → Device
-after_give v command d = record d { file = record v.file { command = command }; bus = bus_given v d.bus }
+after_give v command d =
+    record d { file = record v.file { command = command }; bus = bus_given v d.bus }
 
 -- Status 50h and Error 00h are shown: at rest, and the last command went well (own)
 abbrev pub shows_well : TaskFile → Bool
@@ -63,7 +65,8 @@ shows_well f = (status f == 80) && (f.error == 0)
 -- a guest would see nothing of the monitor's going: all is well in the view, nothing pends, no walk was
 -- begun, and no own command stands (own)
 abbrev pub is_clean : View → Bool → Bool
-is_clean v own = shows_well v.file && not v.file.pending && not v.bus.start && not v.bus.error && not own
+is_clean v own =
+    shows_well v.file && not v.file.pending && not v.bus.start && not v.bus.error && not own
 
 -- the drive after the monitor's removal: over the registers and the bus master of the view, with its own
 -- error and interrupt bits

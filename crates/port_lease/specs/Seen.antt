@@ -22,11 +22,13 @@ seen_of d = record { file = d.file; bus = d.bus; line = line d.file }
 -- a bus master as the guest sees it beside the drive's: the interrupt bit is the drive's, and the error
 -- bit is 1 where one of both is (own)
 abbrev pub bus_beside : Bus → Bus → Bus
-bus_beside kept drives = record kept { error = kept.error || drives.error; interrupt = drives.interrupt }
+bus_beside kept drives =
+    record kept { error = kept.error || drives.error; interrupt = drives.interrupt }
 
 -- the bus master on the guest's side: the drive's where the command given uses it, and else the view's (own)
 abbrev pub bus_on_guest_side : View → Bus → Bus
-bus_on_guest_side v b = if uses_bus v then record b { error = v.bus.error || b.error } else bus_beside v.bus b
+bus_on_guest_side v b =
+    if uses_bus v then record b { error = v.bus.error || b.error } else bus_beside v.bus b
 
 -- the device on the guest's side: the drive, with the bus master that the guest sees
 abbrev pub on_guest_side : View → Device → Device
@@ -38,7 +40,8 @@ seen_on_guest_side v d = seen_of (on_guest_side v d)
 
 -- what the guest sees on the monitor's side: the registers of the view, and the line of the drive (own)
 abbrev pub seen_on_monitor_side : View → Device → Seen
-seen_on_monitor_side v d = record { file = v.file; bus = bus_beside v.bus d.bus; line = line d.file }
+seen_on_monitor_side v d =
+    record { file = v.file; bus = bus_beside v.bus d.bus; line = line d.file }
 
 -- what a read of a register answers
 abbrev pub byte_seen : Reg → Seen → ℕ

@@ -93,12 +93,14 @@ is_command access.Line = false
 
 -- what is kept after a write of Device Control: a reset leaves 00h in Features
 abbrev pub control_kept : ℕ → TaskFile → TaskFile
-control_kept v f = record f { control = bit_and v 134; features = if has_bit SRST v then 0 else f.features }
+control_kept v f =
+    record f { control = bit_and v 134; features = if has_bit SRST v then 0 else f.features }
 
 -- what is kept of the registers after a write to one, by the drive's phase: where the drive ignores it
 -- nothing changes
 abbrev pub file_kept : Reg → ℕ → Phase → TaskFile → TaskFile
-file_kept reg.Error v phase f = if is_at_work phase then f else record (hob_cleared f) { features = v }
+file_kept reg.Error v phase f =
+    if is_at_work phase then f else record (hob_cleared f) { features = v }
 file_kept reg.Count v phase f = if is_at_work phase then f else hob_cleared f
 file_kept reg.Low v phase f = if is_at_work phase then f else hob_cleared f
 file_kept reg.Mid v phase f = if is_at_work phase then f else hob_cleared f

@@ -31,7 +31,8 @@ plainly_written r v d = if is_at_work d.file.phase then d else record d { file =
 -- where they are taken
 abbrev pub asked : Device → Device
 asked d =
-    if selects_absent d.file && not (is_at_work d.file.phase) then record d { file = hob_cleared d.file } else d
+    if selects_absent d.file && not (is_at_work d.file.phase)
+    then record d { file = hob_cleared d.file } else d
 
 -- a drive without a command, without an interrupt, and with HOB at 0, so that no write to the command
 -- block changes Device Control; 7Fh is all bits but HOB

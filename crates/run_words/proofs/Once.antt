@@ -16,12 +16,14 @@ mode_once : (a b : Mode) → mode_text a ≡ mode_text b → a ≡ b
 mode_once a b same = grind arith
 
 -- a value says one number
-pub number_once : (default : ℕ) (value : Option (List ℕ)) (m n : ℕ) → m < 2 ^ 64 → n < 2 ^ 64 → IsNumber default value m → IsNumber default value n → m ≡ n
+pub number_once : (default : ℕ) (value : Option (List ℕ)) (m n : ℕ) → m < 2 ^ 64 → n < 2 ^ 64
+    → IsNumber default value m → IsNumber default value n → m ≡ n
 number_once default None m n low high one other = one ∙ sym other
 number_once default (Some text) m n low high one other = decimal_injective m n low high (sym one ∙ other)
 
 -- the same in some bounds
-in_once : (least most default : ℕ) (value : Option (List ℕ)) (m n : ℕ) → most < 2 ^ 64 → IsNumberIn least most default value m → IsNumberIn least most default value n → m ≡ n
+in_once : (least most default : ℕ) (value : Option (List ℕ)) (m n : ℕ) → most < 2 ^ 64
+    → IsNumberIn least most default value m → IsNumberIn least most default value n → m ≡ n
 in_once least most default value m n small one other =
     number_once default value m n (omega arith) (omega arith) one.0 other.0
 
@@ -56,6 +58,8 @@ pub says_once : (words : List (List ℕ)) (a b : Choice) → Says words a → Sa
 says_once words a b one other = pairs_once (pairs (drop 1 words)) a b one.given other.given
 
 -- so an answer that is right is the only one
-pub answered_once : (words : List (List ℕ)) (result : Option Options) → IfSome result (λ options. Says words (seen options)) → IfNone result ((choice : Choice) → ¬ Says words choice) → (choice : Choice) → Says words choice → option_map seen result ≡ Some choice
+pub answered_once : (words : List (List ℕ)) (result : Option Options)
+    → IfSome result (λ options. Says words (seen options)) → IfNone result ((choice : Choice) → ¬ Says words choice)
+    → (choice : Choice) → Says words choice → option_map seen result ≡ Some choice
 answered_once words None found none choice says = absurd (none choice says)
 answered_once words (Some options) found none choice says = ap Some (says_once words (seen options) choice found says)

@@ -29,23 +29,27 @@ pub nothing_after : (word : List ℕ) → is_joined word ≡ false → after_fir
 nothing_after word plain = drop_of_length-le word (omega (arith, joined_at_end word plain))
 
 -- a word with a `=` is a pair by itself
-pub pairs_joined : (word : List ℕ) (words : List (List ℕ)) → is_joined word ≡ true → pairs (word ∷ words) ≡ split word ∷ pairs words
+pub pairs_joined : (word : List ℕ) (words : List (List ℕ)) → is_joined word ≡ true
+    → pairs (word ∷ words) ≡ split word ∷ pairs words
 pairs_joined word [] joined = refl
 pairs_joined word (next ∷ rest) joined = grind (arith, joined)
 
 -- the last word without a `=` is a pair with nothing
-pub pairs_last : {Z : Type 0} (word : List ℕ) (words : List (String Z)) → length words < 1 → is_joined word ≡ false → pairs (word ∷ texts words) ≡ record { name = word; value = [] } ∷ pairs (texts words)
+pub pairs_last : {Z : Type 0} (word : List ℕ) (words : List (String Z)) → length words < 1 → is_joined word ≡ false
+    → pairs (word ∷ texts words) ≡ record { name = word; value = [] } ∷ pairs (texts words)
 pairs_last word [] short plain = grind (arith, all_before word plain, nothing_after word plain)
 pairs_last word (next ∷ rest) short plain = absurd (omega arith)
 
-pub pairs_apart : (word next : List ℕ) (rest : List (List ℕ)) → is_joined word ≡ false → pairs (word ∷ next ∷ rest) ≡ record { name = word; value = next } ∷ pairs rest
+pub pairs_apart : (word next : List ℕ) (rest : List (List ℕ)) → is_joined word ≡ false
+    → pairs (word ∷ next ∷ rest) ≡ record { name = word; value = next } ∷ pairs rest
 pairs_apart word next rest plain = grind (arith, plain)
 
 -- where `split_once` finds nothing, the word has no `=`; where it cuts, the word is split
 pub splits_nowhere : (word : List ℕ) → IsSplitOnceResult 61 word None → is_joined word ≡ false
 splits_nowhere word found = joined_nowhere word (split_once_first 61 word None found (omega arith))
 
-pub splits_at_first : (word : List ℕ) (name value : Bor (List ℕ)) → IsSplitOnceResult 61 word (Some (name, value)) → (is_joined word ≡ true) × (split word ≡ record { name = name.now; value = value.now })
+pub splits_at_first : (word : List ℕ) (name value : Bor (List ℕ)) → IsSplitOnceResult 61 word (Some (name, value))
+    → (is_joined word ≡ true) × (split word ≡ record { name = name.now; value = value.now })
 splits_at_first word name value found =
     let parts = split_once_first 61 word (Some (name, value)) found (omega arith) in
     (joined_somewhere word parts.0, cc)

@@ -21,7 +21,8 @@ IsNumber default (Some text) number = text ≡ decimal number
 
 -- the same between two bounds
 abbrev pub IsNumberIn : ℕ → ℕ → ℕ → Option (List ℕ) → ℕ → Type 0
-IsNumberIn least most default value number = IsNumber default value number × (least ≤ number) × (number ≤ most)
+IsNumberIn least most default value number =
+    IsNumber default value number × (least ≤ number) × (number ≤ most)
 
 -- the block's number
 abbrev pub SaysBlock : Option (List ℕ) → ℕ → Type 0
@@ -34,7 +35,8 @@ SaysMemory value memory = IsNumberIn 4096 16777216 1048576 value memory × (memo
 -- no two of these texts are one
 abbrev pub are_different : List (List ℕ) → Bool
 are_different [] = true
-are_different (text ∷ rest) = not (list_any (λ other. bytes_eq other text) rest) && are_different rest
+are_different (text ∷ rest) =
+    not (list_any (λ other. bytes_eq other text) rest) && are_different rest
 
 -- the names of the five files
 pub record FileNames : Type 0 where

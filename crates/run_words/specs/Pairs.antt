@@ -15,7 +15,8 @@ pub record Pair : Type 0 where
 
 -- a word split at its first `=` (61); without one, all of it is the name
 abbrev pub split : List ℕ → Pair
-split word = record { name = before_first (λ c. c == 61) word; value = after_first (λ c. c == 61) word }
+split word =
+    record { name = before_first (λ c. c == 61) word; value = after_first (λ c. c == 61) word }
 
 -- a word with a `=` (61)
 abbrev pub is_joined : List ℕ → Bool
@@ -32,7 +33,8 @@ pairs (word ∷ next ∷ rest) =
 -- the value of the first pair with this name
 abbrev pub value_of : List Pair → List ℕ → Option (List ℕ)
 value_of [] name = None
-value_of (pair ∷ rest) name = if bytes_eq pair.name name then Some pair.value else value_of rest name
+value_of (pair ∷ rest) name =
+    if bytes_eq pair.name name then Some pair.value else value_of rest name
 
 -- the names of the options
 abbrev pub names : List (List ℕ)
@@ -53,4 +55,5 @@ is_value (c ∷ rest) = not (c == 45)
 abbrev pub are_options : List Pair → Bool
 are_options [] = true
 are_options (pair ∷ rest) =
-    is_name pair.name && is_value pair.value && is_none (value_of rest pair.name) && are_options rest
+    is_name pair.name && is_value pair.value && is_none (value_of rest pair.name)
+    && are_options rest

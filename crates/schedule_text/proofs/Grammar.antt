@@ -16,7 +16,8 @@ use Rattle.schedule_text.proofs.Hex.{told_bytes, told_bytes-hex_text, told_long,
 
 -- the register that two bytes name
 abbrev named : ℕ → ℕ → Reg
-named first last = if first == 101 then reg.Error else if first == 100 then reg.Device else if first == 97 then reg.Alternate
+named first last = if first == 101 then reg.Error else if first == 100 then reg.Device else if first
+    == 97 then reg.Alternate
     else if first == 115 then (if last == 99 then reg.Count else reg.Status)
     else if first == 108 then (if last == 108 then reg.Low else if last == 109 then reg.Mid else reg.High)
     else if last == 99 then reg.BusCommand else reg.BusStatus
@@ -35,11 +36,13 @@ told_write_byte line =
 abbrev told_write : List ℕ → Event
 told_write line =
     if get_or line 3 0 == 56 then told_write_byte line
-    else if get_or line 3 0 == 100 then event.WriteWords (told_bytes (drop 5 line)) else event.WritePointer (told_long (drop 6 line))
+    else if get_or line 3 0 == 100 then event.WriteWords (told_bytes (drop 5 line)) else event.WritePointer
+    (told_long (drop 6 line))
 
 -- and of one about the guest's memory
 abbrev told_memory : List ℕ → Event
-told_memory line = if get_or line 3 0 == 114 then event.ReadMemory (told_long (drop 5 line)) (digits_value 10 (drop 14 line))
+told_memory line = if get_or line 3 0 == 114 then event.ReadMemory (told_long (drop 5 line))
+    (digits_value 10 (drop 14 line))
     else event.WriteMemory (told_long (drop 5 line)) (told_bytes (drop 14 line))
 
 abbrev told_access : List ℕ → Event
@@ -47,7 +50,8 @@ told_access line = if get_or line 2 0 == 114 then told_read line else if get_or 
     else if get_or line 2 0 == 109 then told_memory line else event.Line
 
 abbrev told_act : List ℕ → Event
-told_act line = if get_or line 2 0 == 111 then event.Drive step.Good else if get_or line 2 0 == 98 then event.Drive step.Bad
+told_act line = if get_or line 2 0 == 111 then event.Drive step.Good else if get_or line 2 0 == 98
+    then event.Drive step.Bad
     else event.Destage (digits_value 10 (drop 6 line))
 
 -- the event of a line, where it says one
@@ -62,9 +66,11 @@ name_is r = grind arith
 named-register_text : (r : Reg) → named (get_or (register_text r) 0 0) (get_or (register_text r) 1 0) ≡ r
 named-register_text r = grind arith
 
-told_write8 : (r : Reg) (v : ℕ) → v < 256 → told (codes "g w8 " ++ register_text r ++ 32 ∷ hex_byte v) ≡ event.Write8 r v
+told_write8 : (r : Reg) (v : ℕ) → v < 256 → told (codes "g w8 " ++ register_text r ++ 32 ∷ hex_byte v) ≡ event.Write8
+    r v
 told_write8 r v small = ap (λ (name : List ℕ). told (codes "g w8 " ++ name ++ 32 ∷ hex_byte v)) (name_is r) ∙
-    ap (λ (q : Reg). event.Write8 q (byte_value (get_or (hex_byte v) 0 0) (get_or (hex_byte v) 1 0))) (named-register_text r) ∙
+    ap (λ (q : Reg). event.Write8 q (byte_value (get_or (hex_byte v) 0 0) (get_or (hex_byte v) 1 0)))
+    (named-register_text r) ∙
     ap (event.Write8 r) (byte_value-hex_byte v small)
 
 told_remark : (line : List ℕ) → IsTextOf event.Remark line → told line ≡ event.Remark
@@ -79,14 +85,16 @@ pub told_said : (line : List ℕ) (e : Event) → Says line e → told line ≡ 
 told_said line (event.Read8 r) (range, is) = ap told is ∙ ap event.Read8 (named-register_text r)
 told_said line (event.Write8 r v) (small, is) = ap told is ∙ told_write8 r v small
 told_said line (event.ReadWords n) (range, is) = ap told is ∙ ap event.ReadWords (decimal_told n (omega arith)).1
-told_said line (event.WriteWords bytes) (range, is) = ap told is ∙ ap event.WriteWords (told_bytes-hex_text bytes range.0.0)
+told_said line (event.WriteWords bytes) (range, is) = ap told is ∙ ap event.WriteWords
+    (told_bytes-hex_text bytes range.0.0)
 told_said line event.ReadPointer (range, is) = ap told is
 told_said line (event.WritePointer v) (small, is) = ap told is ∙ ap event.WritePointer (told_pointer v small)
 told_said line (event.ReadMemory a n) (range, is) = ap told is ∙
     ap (λ (b : ℕ). event.ReadMemory b (digits_value 10 (decimal n))) (told_long-hex_long a (32 ∷ decimal n) range.0) ∙
     ap (event.ReadMemory a) (decimal_told n (omega arith)).1
 told_said line (event.WriteMemory a bytes) (range, is) = ap told is ∙
-    ap (λ (b : ℕ). event.WriteMemory b (told_bytes (hex_text bytes))) (told_long-hex_long a (32 ∷ hex_text bytes) range.0) ∙
+    ap (λ (b : ℕ). event.WriteMemory b (told_bytes (hex_text bytes)))
+    (told_long-hex_long a (32 ∷ hex_text bytes) range.0) ∙
     ap (event.WriteMemory a) (told_bytes-hex_text bytes range.1.0)
 told_said line event.Line (range, is) = ap told is
 told_said line (event.Drive step.Good) (range, is) = ap told is
@@ -126,7 +134,8 @@ says_short line (event.WriteMemory a bytes) (range, is) = omega (arith, ap lengt
 says_short line event.Line (range, is) = omega (arith, ap length is)
 says_short line (event.Drive step.Good) (range, is) = omega (arith, ap length is)
 says_short line (event.Drive step.Bad) (range, is) = omega (arith, ap length is)
-says_short line (event.Destage k) (range, is) = omega (arith, ap length is, length-decimal-le 2 k (omega arith) (omega arith) (omega arith))
+says_short line (event.Destage k) (range, is) =
+    omega (arith, ap length is, length-decimal-le 2 k (omega arith) (omega arith) (omega arith))
 says_short line event.Cut (range, is) = omega (arith, ap length is)
 says_short line event.Remark (range, is) = is.1
 says_short line event.End (range, is) = omega (arith, ap length is)
@@ -140,14 +149,16 @@ pub says_in_range : (line : List ℕ) (e : Event) → Says line e → ¬ IsOutOf
 says_in_range line e said (short, inl (text, is, beyond)) = beyond.1 (range_told line e (codes "g rd " ++ text) said is)
 says_in_range line e said (short, inr (inl (a, text, small, is, beyond))) = let range =
     range_told line e (codes "g mr " ++ hex_long a ++ 32 ∷ text) said is in beyond.1 (range.1, range.2)
-says_in_range line e said (short, inr (inr (text, is, beyond))) = beyond.1 (omega arith, range_told line e (codes "d put " ++ text) said is)
+says_in_range line e said (short, inr (inr (text, is, beyond))) =
+    beyond.1 (omega arith, range_told line e (codes "d put " ++ text) said is)
 
 -- the answer to a line: what it says, or its fault
 abbrev Reads : List ℕ → Result Event LineFault → Type 0
 Reads line answer = MatchResult answer (Says line) (HasFault line)
 
 -- the answer to a line that says an event is that event
-pub only_said : (line : List ℕ) (answer : Result Event LineFault) → Reads line answer → (e : Event) → Says line e → answer ≡ Ok e
+pub only_said : (line : List ℕ) (answer : Result Event LineFault) → Reads line answer → (e : Event)
+    → Says line e → answer ≡ Ok e
 only_said line (Ok a) reads e said = ap Ok (says_once line a e reads said)
 only_said line (Err fault.Form) reads e said = absurd (reads.1 e said)
 only_said line (Err fault.Number) reads e said = absurd (says_in_range line e said reads)
@@ -157,7 +168,8 @@ only_said line (Err fault.TooMany) reads e said = absurd reads
 only_said line (Err fault.Trailing) reads e said = absurd reads
 
 -- the answer to a line whose number is out of range is Number
-pub only_number : (line : List ℕ) (answer : Result Event LineFault) → Reads line answer → IsOutOfRange line → answer ≡ Err fault.Number
+pub only_number : (line : List ℕ) (answer : Result Event LineFault) → Reads line answer → IsOutOfRange line
+    → answer ≡ Err fault.Number
 only_number line (Ok a) reads beyond = absurd (says_in_range line a reads beyond)
 only_number line (Err fault.Form) reads beyond = absurd (reads.2 beyond)
 only_number line (Err fault.Number) reads beyond = refl

@@ -30,8 +30,10 @@ byte_value-hex_byte v small =
     ap₂ (λ (a b : ℕ). a * 16 + b) high low ∙ split
 
 -- two digits tell one byte
-hex_byte_once : (v w : ℕ) → v < 256 → w < 256 → hex_digit (v / 16) ≡ hex_digit (w / 16) → hex_digit (v % 16) ≡ hex_digit (w % 16) → v ≡ w
-hex_byte_once v w low high front back = sym (byte_value-hex_byte v low) ∙ ap₂ byte_value front back ∙ byte_value-hex_byte w high
+hex_byte_once : (v w : ℕ) → v < 256 → w < 256 → hex_digit (v / 16) ≡ hex_digit (w / 16)
+    → hex_digit (v % 16) ≡ hex_digit (w % 16) → v ≡ w
+hex_byte_once v w low high front back = sym (byte_value-hex_byte v low) ∙ ap₂ byte_value front back
+    ∙ byte_value-hex_byte w high
 
 -- the bytes of text
 abbrev pub told_bytes : List ℕ → List ℕ
@@ -39,13 +41,15 @@ told_bytes [] = []
 told_bytes (high ∷ []) = []
 told_bytes (high ∷ low ∷ rest) = byte_value high low ∷ told_bytes rest
 
-pub told_bytes-front : (bytes rest : List ℕ) → AreBytes bytes → told_bytes (hex_text bytes ++ rest) ≡ bytes ++ told_bytes rest
+pub told_bytes-front : (bytes rest : List ℕ) → AreBytes bytes
+    → told_bytes (hex_text bytes ++ rest) ≡ bytes ++ told_bytes rest
 told_bytes-front [] rest all = refl
 told_bytes-front (b ∷ bytes) rest all = ap₂ (λ (x : ℕ) (xs : List ℕ). x ∷ xs) (byte_value-hex_byte b all.0)
     (told_bytes-front bytes rest all.1)
 
 pub told_bytes-hex_text : (bytes : List ℕ) → AreBytes bytes → told_bytes (hex_text bytes) ≡ bytes
-told_bytes-hex_text bytes all = ap told_bytes (sym (append-nil (hex_text bytes))) ∙ told_bytes-front bytes [] all ∙ append-nil bytes
+told_bytes-hex_text bytes all = ap told_bytes (sym (append-nil (hex_text bytes))) ∙ told_bytes-front bytes [] all
+    ∙ append-nil bytes
 
 pub length-hex_text : (bytes : List ℕ) → length (hex_text bytes) ≡ 2 * length bytes
 length-hex_text [] = refl
@@ -55,7 +59,8 @@ length-hex_text (b ∷ bytes) = let rest = length-hex_text bytes in omega arith
 pub no_text : (all text : List ℕ) → length text ≡ 0 → 1 ≤ length all → text ≢ hex_text all
 no_text all text nothing some is = omega (arith, ap length is, length-hex_text all)
 
-pub some_bytes : (xs text rest : List ℕ) → text ≡ hex_text xs ++ rest → length rest ≡ 0 → length text ≢ 0 → 1 ≤ length xs
+pub some_bytes : (xs text rest : List ℕ) → text ≡ hex_text xs ++ rest → length rest ≡ 0 → length text ≢ 0
+    → 1 ≤ length xs
 some_bytes [] text rest is nothing some = absurd (some (ap length is ∙ nothing))
 some_bytes (x ∷ xs) text rest is nothing some = omega arith
 
@@ -93,7 +98,8 @@ more_text xs new text rest after b is goes more =
     ∙ ap (λ (z : List ℕ). z ++ after) (sym (flat_map-append hex_byte xs (b ∷ [])) ∙ ap hex_text (sym more))
 
 -- text that goes on behind so many bytes has more
-pub too_many : (xs rest all : List ℕ) (most : ℕ) → AreBytes xs → AreBytes all → rest ≢ [] → length xs ≡ most → length all ≤ most
+pub too_many : (xs rest all : List ℕ) (most : ℕ) → AreBytes xs → AreBytes all → rest ≢ [] → length xs ≡ most
+    → length all ≤ most
     → hex_text xs ++ rest ≢ hex_text all
 too_many xs rest all most here there some full few e =
     let (more, bytes, is, goes) = after_text xs all rest here there e in

@@ -19,9 +19,11 @@ first_line-last [] one = refl
 first_line-last (byte ∷ line) one = let tail = first_line-last line one.1 in let no = one.0 in grind arith
 
 -- longer than its start
-pub first_line-long : (line rest : List ℕ) (byte : ℕ) → IsOneLine line → byte ≢ 10 → length line < length (first_line (line ++ byte ∷ rest))
+pub first_line-long : (line rest : List ℕ) (byte : ℕ) → IsOneLine line → byte ≢ 10
+    → length line < length (first_line (line ++ byte ∷ rest))
 first_line-long [] rest byte one other = grind arith
-first_line-long (c ∷ line) rest byte one other = let tail = first_line-long line rest byte one.1 other in let no = one.0 in grind arith
+first_line-long (c ∷ line) rest byte one other = let tail = first_line-long line rest byte one.1 other in
+    let no = one.0 in grind arith
 
 -- a line feed at the end of a text changes nothing
 pub first_line-feed : (text : List ℕ) → first_line (text ++ 10 ∷ []) ≡ first_line text

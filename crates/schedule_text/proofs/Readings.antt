@@ -23,12 +23,14 @@ joined : (before line x : List ℕ) → (before ++ line ++ 10 ∷ []) ++ x ≡ b
 joined before line x = simp append_assoc
 
 -- as many lines of one text are the same, and the same is left
-same : (a b : List Event) (s t x y : List ℕ) → length a ≡ length b → HasLines s a → HasLines t b → s ++ x ≡ t ++ y → (a ≡ b) × (x ≡ y)
+same : (a b : List Event) (s t x y : List ℕ) → length a ≡ length b → HasLines s a → HasLines t b
+    → s ++ x ≡ t ++ y → (a ≡ b) × (x ≡ y)
 same [] [] s t x y long here there e = (refl, rw (here, there) at e)
 same [] (q ∷ b) s t x y long here there e = absurd (omega arith)
 same (p ∷ a) [] s t x y long here there e = absurd (omega arith)
 same (p ∷ a) (q ∷ b) s t x y long (before, l, lines, one, says, is) (front, m, others, other, said, was) e =
-    let text : before ++ (l ++ 10 ∷ x) ≡ front ++ (m ++ 10 ∷ y) = sym (joined before l x) ∙ sym (ap (λ z. z ++ x) is) ∙ e ∙
+    let text : before ++ (l ++ 10 ∷ x) ≡ front ++ (m ++ 10 ∷ y) = sym (joined before l x) ∙ sym (ap (λ z. z ++ x) is)
+    ∙ e ∙
     ap (λ z. z ++ y) was ∙ joined front m y in
     let back = same a b before front (l ++ 10 ∷ x) (m ++ 10 ∷ y) (omega arith) lines others text in
     let line = line_once l m x y one other back.1 in
@@ -46,7 +48,8 @@ record GoesOn (left : List ℕ) (events more : List Event) : Type 0 where
   left_is : left ≡ line ++ 10 ∷ rest
   more_is : more ≡ newer ++ said ∷ events
 
-one_more : (a b : List Event) (q : Event) (m x y : List ℕ) → IsOneLine m → Says m q → ((a ≡ b) × (x ≡ m ++ 10 ∷ y)) ⊎ GoesOn x a b
+one_more : (a b : List Event) (q : Event) (m x y : List ℕ) → IsOneLine m → Says m q
+    → ((a ≡ b) × (x ≡ m ++ 10 ∷ y)) ⊎ GoesOn x a b
     → GoesOn x a (q ∷ b)
 one_more a b q m x y one says (inl (is, left)) = record {
   line = m;
@@ -124,19 +127,22 @@ follows_cut text s left events more lines is cut on = record {
 -- two readings of one text, with no more events here than there
 both_read : (text x y : List ℕ) (a b : List Event) → length a ≤ length b → HasRead text x a → HasRead text y b
     → ((a ≡ b) × (x ≡ y)) ⊎ Follows x a b
-both_read text x y a b few (s, here, inl is) (t, there, inl was) = elim (lines_meet a b s t x y few here there (sym is ∙ was)) [
-  | inl all ↦ inl all
-  | inr on ↦ inr (follows x a b on)
-]
+both_read text x y a b few (s, here, inl is) (t, there, inl was) =
+    elim (lines_meet a b s t x y few here there (sym is ∙ was)) [
+      | inl all ↦ inl all
+      | inr on ↦ inr (follows x a b on)
+    ]
 both_read text x y a b few (s, here, inl is) (t, there, inr (none, was, cut)) =
-    let e : s ++ (x ++ 10 ∷ []) ≡ t ++ [] = sym (append_assoc s x (10 ∷ [])) ∙ ap (λ z. z ++ 10 ∷ []) (sym is) ∙ sym was ∙
+    let e : s ++ (x ++ 10 ∷ []) ≡ t ++ [] = sym (append_assoc s x (10 ∷ [])) ∙ ap (λ z. z ++ 10 ∷ []) (sym is)
+    ∙ sym was ∙
     sym (append-nil t) in
     elim (lines_meet a b s t (x ++ 10 ∷ []) [] few here there e) [
       | inl all ↦ absurd (some_bytes x [] 10 all.1)
       | inr on ↦ inr (follows_cut text s x a b here is cut on)
     ]
 both_read text x y a b few (s, here, inr (none, is, cut)) (t, there, inl was) =
-    let e : s ++ [] ≡ t ++ (y ++ 10 ∷ []) = append-nil s ∙ is ∙ ap (λ z. z ++ 10 ∷ []) was ∙ append_assoc t y (10 ∷ []) in
+    let e : s ++ [] ≡ t ++ (y ++ 10 ∷ []) = append-nil s ∙ is ∙ ap (λ z. z ++ 10 ∷ []) was
+    ∙ append_assoc t y (10 ∷ []) in
     elim (lines_meet a b s t [] (y ++ 10 ∷ []) few here there e) [
       | inl all ↦ absurd (some_bytes y [] 10 (sym all.1))
       | inr on ↦ absurd (some_bytes on.line on.rest 10 (sym on.left_is))
@@ -161,21 +167,25 @@ due_before : (newer events : List Event) → MayGoOn (newer ++ events) → MayGo
 due_before [] events goes_on = goes_on
 due_before (one ∷ newer) events goes_on = due_before newer events (goes_on.0.1, omega (arith, goes_on.1))
 
-due_behind : (newer : List Event) (said : Event) (events : List Event) → Begins (newer ++ said ∷ events) → MayGoOn events
+due_behind : (newer : List Event) (said : Event) (events : List Event) → Begins (newer ++ said ∷ events)
+    → MayGoOn events
 due_behind [] said events (inl end) = end.1
 due_behind [] said events (inr goes_on) = (goes_on.0.1, omega (arith, goes_on.1))
 due_behind (one ∷ newer) said events (inl end) = due_before (said ∷ []) events (due_before newer (said ∷ events) end.1)
-due_behind (one ∷ newer) said events (inr goes_on) = due_before (said ∷ []) events (due_before (one ∷ newer) (said ∷ events) goes_on)
+due_behind (one ∷ newer) said events (inr goes_on) = due_before (said ∷ []) events
+    (due_before (one ∷ newer) (said ∷ events) goes_on)
 
 -- and behind one that isn't `end`
-due_still : (newer : List Event) (said : Event) (events : List Event) → said ≢ event.End → Begins (newer ++ said ∷ events)
+due_still : (newer : List Event) (said : Event) (events : List Event) → said ≢ event.End
+    → Begins (newer ++ said ∷ events)
     → MayGoOn (said ∷ events)
 due_still [] said events other (inl end) = absurd (other end.0)
 due_still [] said events other (inr goes_on) = goes_on
 due_still (one ∷ newer) said events other (inl end) = due_before newer (said ∷ events) end.1
 due_still (one ∷ newer) said events other (inr goes_on) = due_before (one ∷ newer) (said ∷ events) goes_on
 
-fails_begins : (kind : LineFault) (number : ℕ) (events : List Event) (left : List ℕ) → FailsWith kind number events left → Begins events
+fails_begins : (kind : LineFault) (number : ℕ) (events : List Event) (left : List ℕ)
+    → FailsWith kind number events left → Begins events
 fails_begins fault.NoEnd number events left fails = inr fails.0
 fails_begins fault.Trailing number events left fails = inl fails.0
 fails_begins fault.LongLine number events left fails = inr fails.goes_on
@@ -184,7 +194,8 @@ fails_begins fault.Number number events left fails = inr fails.goes_on
 fails_begins fault.TooMany number events left fails = inr fails.goes_on
 
 -- where a schedule fails, it doesn't go on
-fails_here : (kind : LineFault) (number : ℕ) (events more : List Event) (left : List ℕ) → FailsWith kind number events left
+fails_here : (kind : LineFault) (number : ℕ) (events more : List Event) (left : List ℕ)
+    → FailsWith kind number events left
     → length events + 1 ≡ number → Begins more → ¬ Follows left events more
 fails_here fault.NoEnd number events more left fails next begins on = on.some fails.1
 fails_here fault.Trailing number events more left fails next begins on =
@@ -192,7 +203,8 @@ fails_here fault.Trailing number events more left fails next begins on =
 fails_here fault.LongLine number events more left fails next begins on =
     let short = says_short (first_line left) on.said on.says in let long = fails.fails in omega arith
 fails_here fault.Form number events more left fails next begins on = fails.fails.1 on.said on.says
-fails_here fault.Number number events more left fails next begins on = says_in_range (first_line left) on.said on.says fails.fails
+fails_here fault.Number number events more left fails next begins on =
+    says_in_range (first_line left) on.said on.says fails.fails
 fails_here fault.TooMany number events more left fails next begins on =
     let (last, (said, says, other)) = fails.fails in
     let one = says_once (first_line left) on.said said on.says says in
@@ -202,29 +214,35 @@ fails_here fault.TooMany number events more left fails next begins on =
 -- behind the same events, with the same bytes left, there is one fault
 one_fault : (k l : LineFault) (number : ℕ) (events : List Event) (left : List ℕ) → FailsWith k number events left
     → FailsWith l number events left → k ≡ l
-one_fault k l number events left first second = grind (arith, ended events, says_short (first_line left), says_in_range (first_line left))
+one_fault k l number events left first second =
+    grind (arith, ended events, says_short (first_line left), says_in_range (first_line left))
 
 -- two first bad lines, with no more events before the one than before the other
 fails_once : (text : List ℕ) (a b : List Event) (m n : ℕ) (k l : LineFault) → length a ≤ length b → FailsAt text a m k
     → FailsAt text b n l → (m ≡ n) × (k ≡ l) × (a ≡ b)
-fails_once text a b m n k l few first second = elim (both_read text first.left second.left a b few first.read second.read) [
-  | inl (events, left) ↦
-      let number : m ≡ n = sym first.next ∙ ap (λ z. length z + 1) events ∙ second.next in
-      let fails : FailsWith l m a first.left = rw (events, left, number) second.fails in
-      (number, one_fault k l m a first.left first.fails fails, events)
-  | inr on ↦ absurd (fails_here k m a b first.left first.fails first.next (fails_begins l n b second.left second.fails) on)
-]
+fails_once text a b m n k l few first second =
+    elim (both_read text first.left second.left a b few first.read second.read) [
+      | inl (events, left) ↦
+          let number : m ≡ n = sym first.next ∙ ap (λ z. length z + 1) events ∙ second.next in
+          let fails : FailsWith l m a first.left = rw (events, left, number) second.fails in
+          (number, one_fault k l m a first.left first.fails fails, events)
+      | inr on ↦ absurd (fails_here k m a b first.left first.fails first.next
+          (fails_begins l n b second.left second.fails) on)
+    ]
 
 -- a text has one first bad line at most
-pub bad_line_once : (text : List ℕ) (a b : List Event) (m n : ℕ) (k l : LineFault) → FailsAt text a m k → FailsAt text b n l
+pub bad_line_once : (text : List ℕ) (a b : List Event) (m n : ℕ) (k l : LineFault) → FailsAt text a m k
+    → FailsAt text b n l
     → (m ≡ n) × (k ≡ l) × (a ≡ b)
 bad_line_once text a b m n k l first second = elim (cases_lt (length b) (length a)) [
-  | inl fewer ↦ let once = fails_once text b a n m l k (omega arith) second first in (sym once.0, sym once.1, sym once.2)
+  | inl fewer ↦ let once = fails_once text b a n m l k (omega arith) second first in
+      (sym once.0, sym once.1, sym once.2)
   | inr few ↦ fails_once text a b m n k l few first second
 ]
 
 -- nothing is left behind a whole schedule, so no reading of its text goes on
-schedule_within : (text left : List ℕ) (events earlier : List Event) → IsSchedule text events → HasRead text left earlier
+schedule_within : (text left : List ℕ) (events earlier : List Event) → IsSchedule text events
+    → HasRead text left earlier
     → (length earlier ≤ length events → Follows left earlier events → ⊥) → (earlier ≡ events) × (left ≡ [])
 schedule_within text left events earlier whole read stays = elim (cases_lt (length events) (length earlier)) [
   | inl fewer ↦ elim (both_read text [] left events earlier (omega arith) whole.1 read) [

@@ -8,7 +8,8 @@ use Rattle.std.proofs.lemmas.Iterator.{YieldsList}
 use Rattle.std.proofs.lemmas.Iterator.Consumers.{YieldsList-from_shown}
 
 -- the items come in reverse
-pub yields_reversed : {X : Type 0} (s : Rev (List X)) → YieldsList (rev_steps (TakesLast (deref {X = X}))) deref s (reverse (rev_source s))
+pub yields_reversed : {X : Type 0} (s : Rev (List X)) → YieldsList (rev_steps (TakesLast (deref {X = X}))) deref s
+    (reverse (rev_source s))
 yields_reversed {X} s =
     YieldsList-from_shown (rev_steps (TakesLast (deref {X = X}))) deref (λ u. reverse (rev_source u))
     (λ u t p. length-reverse _ ∙ ap length p.0)

@@ -21,20 +21,24 @@ module _ {X : Type 0} where
       let all = d ∷ xs in let x = get_or all i d in
       let rest = drop (suc i) all ++ filter p (take i all) in
       let front : ys ≡ x ∷ rest = is ∙ ap (λ l. l ++ filter p (take i all)) (drop-cons all i d within) in
-      let more : filter p (take (i + 1) all) ≡ filter p (take i all) ++ filter p (x ∷ []) = filter_more p all i d within in
+      let more : filter p (take (i + 1) all) ≡ filter p (take i all) ++ filter p (x ∷ []) =
+      filter_more p all i d within in
       ap (λ l. drop 1 l ++ filter p (take 1 l)) front
       ∙ append_assoc (drop (suc i) all) (filter p (take i all)) (filter p (x ∷ []))
       ∙ (λ j. drop (sym (add-one i) j) all ++ sym more j)
 
   -- and so many stay
   pub number_more : (p : X → Bool) (xs ys : List X) (i n m : ℕ) → i < length xs → ys ≡ drop i xs ++ filter p (take i xs)
-      → n ≡ length (filter p (take i xs)) → m ≡ length (filter p (take 1 ys)) → n + m ≡ length (filter p (take (i + 1) xs))
+      → n ≡ length (filter p (take i xs)) → m ≡ length (filter p (take 1 ys))
+      → n + m ≡ length (filter p (take (i + 1) xs))
   number_more p [] ys i n m within is so_far one = absurd (omega arith)
   number_more p (d ∷ xs) ys i n m within is so_far one =
       let all = d ∷ xs in let x = get_or all i d in
-      let front : ys ≡ x ∷ (drop (suc i) all ++ filter p (take i all)) = is ∙ ap (λ l. l ++ filter p (take i all)) (drop-cons all i d within) in
+      let front : ys ≡ x ∷ (drop (suc i) all ++ filter p (take i all)) = is ∙ ap (λ l. l ++ filter p (take i all))
+      (drop-cons all i d within) in
       let m_is : m ≡ length (filter p (x ∷ [])) = one ∙ ap (λ l. length (filter p (take 1 l))) front in
-      let more : length (filter p (take (i + 1) all)) ≡ length (filter p (take i all) ++ filter p (x ∷ [])) = ap length (filter_more p all i d within) in
+      let more : length (filter p (take (i + 1) all)) ≡ length (filter p (take i all) ++ filter p (x ∷ [])) =
+      ap length (filter_more p all i d within) in
       omega (arith, more, length-append (filter p (take i all)) (filter p (x ∷ [])))
 
   -- the last goes to the front
@@ -69,7 +73,14 @@ module _ {X : Type 0} where
   pub turned_more : (xs ys : List X) (j k : ℕ) → j ≡ suc k → j ≤ length xs → ys ≡ drop j xs ++ take j xs
       → drop (length ys - 1) ys ++ take (length ys - 1) ys ≡ drop k xs ++ take k xs
   turned_more xs ys j k step within is =
-      let long : length ys ≡ length xs = omega (arith, ap length is, length-append (drop j xs) (take j xs), length-drop j xs, length-take j xs) in
+      let long : length ys ≡ length xs = omega (
+        arith,
+        ap length is,
+        length-append (drop j xs)
+            (take j xs),
+        length-drop j xs,
+        length-take j xs,
+      ) in
       let cut = cut_end ys (omega arith) in
       let rest = cut.0 in let x = cut.1 in
       let at : length ys - 1 ≡ length rest = omega (arith, ap length cut.2, length-append rest (x ∷ [])) in
@@ -78,7 +89,8 @@ module _ {X : Type 0} where
       ∙ back_to_front xs rest x j k step within (sym is ∙ cut.2)
 
 -- an entry is taken out of the middle: `f` are those before it that stay, and stand behind
-module _ {X : Type 0} (xs ys f : List X) (k : ℕ) (x : X) (there : slice_get xs k ≡ Some x) (passed : ys ≡ drop k xs ++ f) where
+module _ {X : Type 0} (xs ys f : List X) (k : ℕ) (x : X) (there : slice_get xs k ≡ Some x)
+    (passed : ys ≡ drop k xs ++ f) where
   after_it : ys ≡ x ∷ (drop (suc k) xs ++ f)
   after_it =
       let within : k < length xs = slice_get_within xs k x there in

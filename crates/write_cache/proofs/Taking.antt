@@ -9,7 +9,14 @@ length-taken-le : (o : Option Entry) (k : ℕ) (xs : List Entry) → length (tak
 length-taken-le None k xs = omega arith
 length-taken-le (Some x) k xs =
     let kept = entries_but x.sector (take k xs) in
-    omega (arith, length-append kept (drop (k + 1) xs), length-filter-le (λ e. not (is_of x.sector e)) (take k xs), length-take k xs, length-drop (k + 1) xs)
+    omega (
+      arith,
+      length-append kept (drop (k + 1) xs),
+      length-filter-le (λ e. not (is_of x.sector e))
+          (take k xs),
+      length-take k xs,
+      length-drop (k + 1) xs,
+    )
 
 -- no more are left than there were
 pub length-taken_at-le : (k : ℕ) (xs : List Entry) → length (taken_at k xs) ≤ length xs
@@ -23,11 +30,13 @@ module _ (old passed : Buffer Entry) (k : ℕ) (x : Entry) (there : slice_get ol
 
   pub ring_taken : (popped back : Buffer Entry) (n : ℕ) → n ≡ length (entries_but x.sector (take k old.items))
       → popped ≡ buffer (drop 1 passed.items) passed.capacity
-      → back ≡ buffer (drop (length popped.items - n) popped.items ++ take (length popped.items - n) popped.items) popped.capacity
+      → back ≡ buffer (drop (length popped.items - n) popped.items ++ take (length popped.items - n) popped.items)
+      popped.capacity
       → back ≡ buffer (taken_at k old.items) old.capacity
   ring_taken popped back n number popping coming =
       let left : popped.items ≡ drop 1 passed.items = ap (λ b. b.items) popping in
-      let items : drop (length popped.items - n) popped.items ++ take (length popped.items - n) popped.items ≡ taken_at k old.items
+      let items : drop (length popped.items - n) popped.items ++ take (length popped.items - n)
+      popped.items ≡ taken_at k old.items
       = ap (λ l. drop (length l - n) l ++ take (length l - n) l) left
       ∙ taken_out old.items passed.items _ k x there (ap (λ b. b.items) passing) n number
       ∙ ap (λ o. taken o k old.items) (sym there) in

@@ -11,15 +11,18 @@ use Rattle.write_cache.specs.Cache.{is_of, entries_of, entries_but, values_of, n
 
 module _ {X : Type 0} where
   -- a filter that keeps all that another asks for changes nothing for it
-  filter_of_filter : (p q : X → Bool) → ((x : X) → p x ≡ true → q x ≡ true) → (xs : List X) → filter p (filter q xs) ≡ filter p xs
+  filter_of_filter : (p q : X → Bool) → ((x : X) → p x ≡ true → q x ≡ true) → (xs : List X)
+      → filter p (filter q xs) ≡ filter p xs
   filter_of_filter p q keeps [] = refl
   filter_of_filter p q keeps (x ∷ xs) =
       let rest = filter_of_filter p q keeps xs in
       elim (cases_Bool (q x)) [
-        | inl h ↦ ap (filter p) (cond-true (q x) (x ∷ filter q xs) (filter q xs) h) ∙ (λ i. cond (p x) (x ∷ rest i) (rest i))
+        | inl h ↦ ap (filter p) (cond-true (q x) (x ∷ filter q xs) (filter q xs) h)
+            ∙ (λ i. cond (p x) (x ∷ rest i) (rest i))
         | inr h ↦
             let no : p x ≡ false = false_from_ne_true (p x) (λ e. true≢false (sym (keeps x e) ∙ h)) in
-            ap (filter p) (cond-false (q x) (x ∷ filter q xs) (filter q xs) h) ∙ rest ∙ sym (cond-false (p x) (x ∷ filter p xs) (filter p xs) no)
+            ap (filter p) (cond-false (q x) (x ∷ filter q xs) (filter q xs) h) ∙ rest
+            ∙ sym (cond-false (p x) (x ∷ filter p xs) (filter p xs) no)
       ]
 
   -- one that keeps nothing of what another asks for leaves it nothing
@@ -56,11 +59,14 @@ module _ {X : Type 0} where
       ∙ sym (reverse-append (f x ∷ []) (map f xs))
 
   -- what is found is the first of what passes
-  found_first : {Y : Type 0} (f : X → Y) (p : X → Bool) (xs : List X) → option_map f (find p xs) ≡ slice_get (map f (filter p xs)) 0
+  found_first : {Y : Type 0} (f : X → Y) (p : X → Bool) (xs : List X)
+      → option_map f (find p xs) ≡ slice_get (map f (filter p xs)) 0
   found_first f p [] = refl
   found_first f p (x ∷ xs) = elim (cases_Bool (p x)) [
-    | inl h ↦ ap (option_map f) (cond-true (p x) (Some x) (find p xs) h) ∙ ap (λ l. slice_get (map f l) 0) (sym (cond-true (p x) (x ∷ filter p xs) (filter p xs) h))
-    | inr h ↦ ap (option_map f) (cond-false (p x) (Some x) (find p xs) h) ∙ found_first f p xs ∙ ap (λ l. slice_get (map f l) 0) (sym (cond-false (p x) (x ∷ filter p xs) (filter p xs) h))
+    | inl h ↦ ap (option_map f) (cond-true (p x) (Some x) (find p xs) h) ∙ ap (λ l. slice_get (map f l) 0)
+        (sym (cond-true (p x) (x ∷ filter p xs) (filter p xs) h))
+    | inr h ↦ ap (option_map f) (cond-false (p x) (Some x) (find p xs) h) ∙ found_first f p xs
+        ∙ ap (λ l. slice_get (map f l) 0) (sym (cond-false (p x) (x ∷ filter p xs) (filter p xs) h))
   ]
 
 -- of two lists in a row the values of the second are the newer
@@ -72,10 +78,12 @@ values_of-append s xs ys =
     ∙ reverse-append (map f (entries_of s xs)) (map f (entries_of s ys))
 
 values_of_own : (e : Entry) → values_of e.sector (e ∷ []) ≡ e.bytes ∷ []
-values_of_own e = ap (λ l. reverse (map (λ (x : Entry). x.bytes) l)) (cond-true (eqb e.sector e.sector) (e ∷ []) [] (eq-eqb e.sector e.sector refl))
+values_of_own e = ap (λ l. reverse (map (λ (x : Entry). x.bytes) l))
+    (cond-true (eqb e.sector e.sector) (e ∷ []) [] (eq-eqb e.sector e.sector refl))
 
 values_of_another : (s : ℕ) (e : Entry) → e.sector ≢ s → values_of s (e ∷ []) ≡ []
-values_of_another s e apart = ap (λ l. reverse (map (λ (x : Entry). x.bytes) l)) (cond-false (eqb e.sector s) (e ∷ []) [] (ne_eqb e.sector s apart))
+values_of_another s e apart = ap (λ l. reverse (map (λ (x : Entry). x.bytes) l))
+    (cond-false (eqb e.sector s) (e ∷ []) [] (ne_eqb e.sector s apart))
 
 -- a written entry's value is its sector's newest
 pub newest_own : (e : Entry) (xs : List Entry) → values_of e.sector (xs ++ e ∷ []) ≡ e.bytes ∷ values_of e.sector xs
@@ -83,7 +91,8 @@ newest_own e xs = values_of-append e.sector xs (e ∷ []) ∙ ap (λ l. l ++ val
 
 -- and no other sector's
 pub newest_another : (e : Entry) (xs : List Entry) (s : ℕ) → e.sector ≢ s → values_of s (xs ++ e ∷ []) ≡ values_of s xs
-newest_another e xs s apart = values_of-append s xs (e ∷ []) ∙ ap (λ l. l ++ values_of s xs) (values_of_another s e apart)
+newest_another e xs s apart = values_of-append s xs (e ∷ []) ∙ ap (λ l. l ++ values_of s xs)
+    (values_of_another s e apart)
 
 pub newest_leads : (s : ℕ) (xs : List Entry) → option_map (λ e. e.bytes) (newest_of s xs) ≡ slice_get (values_of s xs) 0
 newest_leads s xs =
@@ -96,7 +105,8 @@ oldest_own e xs = values_of-append e.sector (e ∷ []) xs ∙ ap (λ l. values_o
 
 pub oldest_another : (e : Entry) (xs : List Entry) (s : ℕ) → e.sector ≢ s → values_of s (e ∷ xs) ≡ values_of s xs
 oldest_another e xs s apart =
-    values_of-append s (e ∷ []) xs ∙ ap (λ l. values_of s xs ++ l) (values_of_another s e apart) ∙ append-nil (values_of s xs)
+    values_of-append s (e ∷ []) xs ∙ ap (λ l. values_of s xs ++ l) (values_of_another s e apart)
+    ∙ append-nil (values_of s xs)
 
 -- the list around entry k
 around : (k : ℕ) (xs : List Entry) (e : Entry) → slice_get xs k ≡ Some e → xs ≡ take k xs ++ e ∷ drop (k + 1) xs
@@ -114,7 +124,8 @@ pub taken_own : (k : ℕ) (xs : List Entry) (e : Entry) → slice_get xs k ≡ S
     → values_of e.sector (taken_at k xs) ≡ values_of e.sector (drop (k + 1) xs)
 taken_own k xs e there =
     let s = e.sector in let newer = drop (k + 1) xs in
-    let none : entries_of s (entries_but s (take k xs)) ≡ [] = filter_none (is_of s) (λ x. not (is_of s x)) (λ x h. not-true (is_of s x) h) (take k xs) in
+    let none : entries_of s (entries_but s (take k xs)) ≡ [] = filter_none (is_of s) (λ x. not (is_of s x))
+    (λ x h. not-true (is_of s x) h) (take k xs) in
     ap (values_of s) (taken_is k xs e there)
     ∙ values_of-append s (entries_but s (take k xs)) newer
     ∙ ap (λ l. values_of s newer ++ reverse (map (λ (x : Entry). x.bytes) l)) none
@@ -126,7 +137,8 @@ taken_another k xs e s there apart =
     let t = e.sector in let newer = drop (k + 1) xs in let older = take k xs in
     let stays : (x : Entry) → is_of s x ≡ true → not (is_of t x) ≡ true
     = λ x h. not_from_false (is_of t x) (ne_eqb x.sector t (λ same. apart (sym same ∙ eqb-true x.sector s h))) in
-    let all : entries_of s (entries_but t older) ≡ entries_of s older = filter_of_filter (is_of s) (λ x. not (is_of t x)) stays older in
+    let all : entries_of s (entries_but t older) ≡ entries_of s older = filter_of_filter (is_of s)
+    (λ x. not (is_of t x)) stays older in
     ap (values_of s) (taken_is k xs e there)
     ∙ values_of-append s (entries_but t older) newer
     ∙ (λ i. sym (oldest_another e newer s apart) i ++ reverse (map (λ (x : Entry). x.bytes) (all i)))

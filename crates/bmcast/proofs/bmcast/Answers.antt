@@ -13,7 +13,8 @@ returns-in-Err-clause-cause g c = rw c.report_stop.ensures.status
 pub returns-in-Err-clause-told : goal.returns-in-Err-clause-told
 returns-in-Err-clause-told g c = unless_done c.report_stop.result
     (told_since (status_line c.report_stop.result) (g.H.Host.outside c.args.host.now) (g.H.Host.outside c.run.new.host)
-    (g.H.Host.outside c.report_stop.new.host) c.in-Err.stop c.in-Err.ensures.counts c.in-Err.ensures.console c.report_stop.ensures.told)
+    (g.H.Host.outside c.report_stop.new.host) c.in-Err.stop c.in-Err.ensures.counts c.in-Err.ensures.console
+    c.report_stop.ensures.told)
 
 pub returns-in-Err-clause-bad_line : goal.returns-in-Err-clause-bad_line
 returns-in-Err-clause-bad_line g c = rw c.report_stop.ensures.status

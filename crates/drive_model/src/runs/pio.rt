@@ -9,8 +9,8 @@ use ata_taskfile::Reg::Alternate;
 use ata_taskfile::Step::Bad;
 use std::test::Fail;
 
-// No interrupt comes after the last word. A failure shows the sector that is due: in 28 bits the previous bytes stay, in
-// 48 bits Device does.
+// No interrupt comes after the last word. A failure shows the sector that is due: in 28 bits the previous bytes stay,
+// in 48 bits Device does.
 const READS: [Pair; 4] = [
     (
         "one sector",

@@ -7,11 +7,13 @@ use Rattle.plain_drive.specs.Laws.{IsAwaited, IsWritten}
 use Rattle.plain_drive.proofs.Words.{written_words}
 use Rattle.plain_drive.proofs.a_written_block_is_taken.Goals as goal
 
-taken : (d : Device) (words : List ℕ) → (wanted : IsAwaited d) → length words ≡ 256 → IsWritten (after_written words d) words wanted.order wanted.done
+taken : (d : Device) (words : List ℕ) → (wanted : IsAwaited d) → length words ≡ 256
+    → IsWritten (after_written words d) words wanted.order wanted.done
 taken d [] wanted whole = absurd (omega arith)
 taken d (w ∷ words) wanted whole =
     let many : 256 ≡ suc (length words) = omega arith in
-    let all = written_words words w d wanted.order wanted.done (wanted.phase ∙ ap (λ n. Ready (Good wanted.order) wanted.done n) many) wanted.moves in
+    let all = written_words words w d wanted.order wanted.done
+    (wanted.phase ∙ ap (λ n. Ready (Good wanted.order) wanted.done n) many) wanted.moves in
     record { block = all.block ∙ ap (λ b. b ++ w ∷ words) wanted.empty; phase = all.phase }
 
 pub returns : goal.returns

@@ -12,4 +12,5 @@ loop-state-preserved c =
     let within : i < length now = omega arith in
     let before : i < length old = omega arith in
     ap (λ state. slice_set now i state) c.due_again.ensures
-    ∙ map_over_more due_again old now i (get_or now i Due) before c.loop-state.invariant (get_or_default now i Due _ within)
+    ∙ map_over_more due_again old now i (get_or now i Due) before c.loop-state.invariant
+    (get_or_default now i Due _ within)

@@ -13,4 +13,5 @@ pub returns-clause-not_aoe : goal.returns-clause-not_aoe
 returns-clause-not_aoe c = reads_exactly _ _ (Err NotAoe) (rw c.as_slice.ensures.bytes at c.read.ensures.reads)
 
 pub returns-clause-version : goal.returns-clause-version
-returns-clause-version c = λ h. reads_exactly _ _ (Err (Version h)) (rw c.as_slice.ensures.bytes at c.read.ensures.reads)
+returns-clause-version c = λ h. reads_exactly _ _ (Err (Version h))
+    (rw c.as_slice.ensures.bytes at c.read.ensures.reads)

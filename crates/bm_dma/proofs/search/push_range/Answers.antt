@@ -15,6 +15,8 @@ push-requires c =
 
 pub loop-place-preserved : goal.loop-place-preserved
 loop-place-preserved c =
-    let more = range_more c.args.first (c.loop-place.place - c.args.first) (c.loop-place.place + 1 - c.args.first) c.loop-place.place (omega arith) (omega arith) in
+    let more = range_more c.args.first (c.loop-place.place - c.args.first) (c.loop-place.place + 1 - c.args.first)
+    c.loop-place.place (omega arith) (omega arith) in
     rw (c.push.ensures.items, c.loop-place.invariant, more)
-    (append_assoc c.args.places.now.items (range_with_len c.args.first (c.loop-place.place - c.args.first)) (c.loop-place.place ∷ []))
+    (append_assoc c.args.places.now.items (range_with_len c.args.first (c.loop-place.place - c.args.first))
+    (c.loop-place.place ∷ []))

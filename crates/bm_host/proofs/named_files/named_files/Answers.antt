@@ -5,5 +5,6 @@ use Rattle.bm_host.proofs.named_files.named_files.Goals as goal
 
 pub loop-role-preserved : goal.loop-role-preserved
 loop-role-preserved c = rw c.name_file.ensures (λ r.
-    named-set c.loop-role.named (files_named c.loop-role.yielded) c.in-Some.role c.in-Some.bytes r (c.loop-role.invariant r)
+    named-set c.loop-role.named (files_named c.loop-role.yielded) c.in-Some.role c.in-Some.bytes r
+    (c.loop-role.invariant r)
     ∙ sym (files_named-push c.loop-role.yielded c.in-Some.role c.in-Some.bytes r))

@@ -9,7 +9,8 @@ returns-in-Unsuitable-clause-text c =
 pub returns-in-ReadFault-clause-text : goal.returns-in-ReadFault-clause-text
 returns-in-ReadFault-clause-text c =
     rw (c.in-ReadFault.is, ← c.role_name.ensures.name)
-    (c.push_two-in-ReadFault.ensures.text ∙ append_assoc c.args.line.now.items (codes "cannot read ") c.role_name.result.now)
+    (c.push_two-in-ReadFault.ensures.text ∙ append_assoc c.args.line.now.items (codes "cannot read ")
+    c.role_name.result.now)
 
 pub returns-in-WriteFault-clause-text : goal.returns-in-WriteFault-clause-text
 returns-in-WriteFault-clause-text c =

@@ -10,9 +10,11 @@ pub loop-preserved : goal.loop-preserved
 loop-preserved c =
     let was = c.loop.machine in
     let after = c.read_word-word.ensures.after in
-    let step = device_after (physical was) (physical c.read_word-word.new.self) (after_read_word (device was)) after refl in (
+    let step = device_after (physical was) (physical c.read_word-word.new.self) (after_read_word (device was))
+    after refl in (
       words_left c.args.n c.loop.counter c.read_word-word.result (device was) _ _ _ _ _ c.loop-test.true
-          c.loop.invariant.0 c.read_word-word.ensures.answer step c.push-in-loop.ensures.items c.push-in-loop-2.ensures.items,
+          c.loop.invariant.0 c.read_word-word.ensures.answer step c.push-in-loop.ensures.items
+          c.push-in-loop-2.ensures.items,
       after_words_left c.args.n c.loop.counter (device was) _ _ c.loop-test.true c.loop.invariant.1 step,
       omega arith,
       c.loop.invariant.3,

@@ -6,7 +6,8 @@ use Rattle.bmcast.proofs.events.answer_words.Given as goal
 
 abbrev pub invariant-loop : goal.invariant-loop
 invariant-loop l =
-    (l.out.bytes.items ++ bytes_of (words_read (l.n - l.counter) (device l.machine)) ≡ bytes_of (words_read l.n (device l.fn.machine)))
+    (l.out.bytes.items ++ bytes_of (words_read (l.n - l.counter) (device l.machine)) ≡ bytes_of
+    (words_read l.n (device l.fn.machine)))
     × (after_words (l.n - l.counter) (device l.machine) ≡ after_words l.n (device l.fn.machine))
     × (length l.out.bytes.items ≡ 2 * l.counter)
     × (l.out.items.items ≡ Answer ∷ [])

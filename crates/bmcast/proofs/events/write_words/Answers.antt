@@ -10,7 +10,8 @@ pub loop-left-preserved : goal.loop-left-preserved
 loop-left-preserved c =
     let was = c.loop-left.machine in
     let after = c.write_word.ensures.after in
-    let step = device_after (physical was) (physical c.write_word.new.self) (after_write_word c.from_le_bytes.result (device was))
+    let step = device_after (physical was) (physical c.write_word.new.self)
+    (after_write_word c.from_le_bytes.result (device was))
     after refl in (
       words_to_write c.loop-left.left.now _ c.from_le_bytes.result (device was) _ _ c.in-len2-up.len_at_least refl
           (omega (arith, c.from_le_bytes.ensures)) step c.loop-left.invariant.0,

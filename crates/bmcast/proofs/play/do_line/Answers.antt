@@ -26,7 +26,9 @@ returns-in-Err-progress_after-clause-bad g c =
 pub returns-clause-done : goal.returns-clause-done
 returns-clause-done g c = λ start was.
     let says = rw (c.in-Ok.is, c.as_slice.ensures.value) at c.read_line-said.ensures.said in
-    line_done start c.args.streams.now c.do_event.new.streams (g.H.Host.outside c.args.host.now) (g.H.Host.outside c.do_event.new.host)
+    line_done start c.args.streams.now c.do_event.new.streams (g.H.Host.outside c.args.host.now)
+    (g.H.Host.outside c.do_event.new.host)
     _ _ c.args.line.now.items c.args.number _ _ _ says
-    (c.in_ok-do_event.ensures.files Schedule (λ e. cc)) c.in_ok-do_event.ensures.event c.in_ok-do_event.ensures.reported was
+    (c.in_ok-do_event.ensures.files Schedule (λ e. cc)) c.in_ok-do_event.ensures.event
+    c.in_ok-do_event.ensures.reported was
     c.in-Ok-progress_after.progress c.requires.number c.in-Ok-progress_after.ensures.leads

@@ -19,10 +19,12 @@ pub returns-in-Nothing-clause-bad : goal.returns-in-Nothing-clause-bad
 returns-in-Nothing-clause-bad g c = λ start now.
     none_taken start _ _ (g.H.Host.outside c.args.host.now) (g.H.Host.outside c.next_line.new.host) now c.args.number _
     (c.in_ok-next_line.ensures.files Schedule (λ e. cc)) c.in_ok-next_line.ensures.said
-    (told_none _ _ _ c.next_line.new.line.items c.args.number c.requires.number (rw c.in-Nothing.is at c.in_ok-next_line.ensures.line))
+    (told_none _ _ _ c.next_line.new.line.items c.args.number c.requires.number
+    (rw c.in-Nothing.is at c.in_ok-next_line.ensures.line))
 
 pub returns-in-TooLong-clause-bad : goal.returns-in-TooLong-clause-bad
 returns-in-TooLong-clause-bad g c = λ start now.
     none_taken start _ _ (g.H.Host.outside c.args.host.now) (g.H.Host.outside c.next_line.new.host) now c.args.number _
     (c.in_ok-next_line.ensures.files Schedule (λ e. cc)) c.in_ok-next_line.ensures.said
-    (told_long _ _ _ c.next_line.new.line.items c.args.number c.requires.number (rw c.in-TooLong.is at c.in_ok-next_line.ensures.line))
+    (told_long _ _ _ c.next_line.new.line.items c.args.number c.requires.number
+    (rw c.in-TooLong.is at c.in_ok-next_line.ensures.line))

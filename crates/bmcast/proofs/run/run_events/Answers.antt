@@ -11,19 +11,31 @@ returns-clause-done g c =
     done (g.H.Host.outside c.args.host.now) (g.H.Host.outside c.begin_files.new.host)
     (g.H.Host.outside c.load.new.host) (g.H.Host.outside c.report_run.new.host) (g.H.Host.outside c.write_out.new.host)
     (physical c.in_ok-machine.machine) (physical c.report_run.new.machine) c.args.options.now.memory
-    c.in_ok-begin_files.ensures.files c.in_ok-machine.ensures.bytes c.in-Ok.ensures.files c.in_ok-write_out.ensures.files
-    (record { began = c.in_ok-machine.ensures.began; sectors = c.in_ok-machine.ensures.sectors; disk = c.in_ok-machine.ensures.disk })
+    c.in_ok-begin_files.ensures.files c.in_ok-machine.ensures.bytes c.in-Ok.ensures.files
+    c.in_ok-write_out.ensures.files
+    (record {
+      began = c.in_ok-machine.ensures.began;
+      sectors = c.in_ok-machine.ensures.sectors;
+      disk =
+          c.in_ok-machine.ensures.disk;
+    })
     c.in-Ok.ensures.reported c.in_ok-write_out.ensures.out
 
 pub returns-in-Err-clause-bad : goal.returns-in-Err-clause-bad
 returns-in-Err-clause-bad g c =
     bad_line_weaker {T = Unit {0}} (Err c.in-Err.stop) _ _
     (λ number kind stopped.
-    bad_line (g.H.Host.outside c.args.host.now) (g.H.Host.outside c.begin_files.new.host) (g.H.Host.outside c.load.new.host)
+    bad_line (g.H.Host.outside c.args.host.now) (g.H.Host.outside c.begin_files.new.host)
+    (g.H.Host.outside c.load.new.host)
     (g.H.Host.outside c.report_run.new.host)
     (physical c.in_ok-machine.machine) (physical c.report_run.new.machine) c.args.options.now.memory number kind
     c.in_ok-begin_files.ensures.files c.in_ok-machine.ensures.bytes
-    (record { began = c.in_ok-machine.ensures.began; sectors = c.in_ok-machine.ensures.sectors; disk = c.in_ok-machine.ensures.disk })
+    (record {
+      began = c.in_ok-machine.ensures.began;
+      sectors = c.in_ok-machine.ensures.sectors;
+      disk =
+          c.in_ok-machine.ensures.disk;
+    })
     stopped)
     c.in-Err.ensures.bad
 

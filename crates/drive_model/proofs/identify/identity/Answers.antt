@@ -8,7 +8,8 @@ loop-i-init c = (identity_none c.args.sectors [], refl)
 
 pub loop-i-preserved : goal.loop-i-preserved
 loop-i-preserved c = (
-  identity_more c.loop-i.i c.args.sectors c.identity_word.result c.loop-i.words (omega arith) c.loop-i.invariant.0 c.identity_word.ensures,
+  identity_more c.loop-i.i c.args.sectors c.identity_word.result c.loop-i.words (omega arith) c.loop-i.invariant.0
+      c.identity_word.ensures,
   grind (arith, common_steps),
 )
 

@@ -20,5 +20,6 @@ pub loop-i-preserved : goal.loop-i-preserved
 loop-i-preserved c =
     let more = byte_more c.args.blocks.now (c.args.b + (c.loop-i.i - 1)) (c.args.b + c.loop-i.i)
     (8 - c.loop-i.i) (8 - (c.loop-i.i - 1)) (omega arith) (omega arith) in
-    let so_far : c.loop-i.byte ≡ byte_of (take (8 - c.loop-i.i) (drop (c.args.b + c.loop-i.i) c.args.blocks.now)) = c.loop-i.invariant in
+    let so_far : c.loop-i.byte ≡ byte_of (take (8 - c.loop-i.i) (drop (c.args.b + c.loop-i.i) c.args.blocks.now)) =
+    c.loop-i.invariant in
     grind arith

@@ -11,7 +11,8 @@ returns c = record {
   bytes =
       let zeros : List ℕ = replicate 512 0 in
       let mark : List ℕ = codes "BMCFILL1" in
-      let numbers : List ℕ = to_be_bytes w64 c.args.id ++ to_be_bytes w64 c.args.area.now.image ++ to_be_bytes w32 c.args.area.now.block in
+      let numbers : List ℕ = to_be_bytes w64 c.args.id ++ to_be_bytes w64 c.args.area.now.image ++ to_be_bytes
+      w32 c.args.area.now.block in
       let old : List ℕ = c.copy_from_slice.new.self ++ post_of 0 8 zeros in
       let with_mark : old ≡ mark ++ replicate 504 0 =
       ap (λ xs. xs ++ post_of 0 8 zeros) c.copy_from_slice.ensures.after ∙ begun 8 512 504 mark zeros refl refl in

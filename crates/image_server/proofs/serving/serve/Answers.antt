@@ -28,5 +28,6 @@ pub returns-in-Err-clause-answer : goal.returns-in-Err-clause-answer
 returns-in-Err-clause-answer g c =
     let told = (g.H.Host.outside c.args.host.now).told Image in
     answer_read c.args.sectors told c.args.frame.now (Err c.in-Err.fault) c.refuse.result c.in-Err.ensures.reads
-    (over_any c.args.sectors told (λ image. c.refuse.result ≡ option_map frame_of (reply c.args.sectors image (Err c.in-Err.fault)))
+    (over_any c.args.sectors told (λ image. c.refuse.result ≡ option_map frame_of
+    (reply c.args.sectors image (Err c.in-Err.fault)))
     (λ image. c.refuse.ensures.answer c.args.sectors image))

@@ -12,4 +12,7 @@ whole_sectors (Some bytes) None n same many = tt
 whole_sectors (Some bytes) (Some later) n same many = let is : later ≡ bytes = cc in rw is (omega (arith, many))
 
 pub serve-requires : goal.serve-requires
-serve-requires g c = record { image = whole_sectors _ _ _ (c.in_ok-bytes.ensures.bytes.told Image) c.in_ok-bytes.ensures.length }
+serve-requires g c = record {
+  image = whole_sectors _ _ _ (c.in_ok-bytes.ensures.bytes.told Image)
+      c.in_ok-bytes.ensures.length;
+}

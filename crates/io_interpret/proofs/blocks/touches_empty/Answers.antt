@@ -15,9 +15,11 @@ returns-then-not-is_filled c =
     let any : c.args.first < c.min-end.result = omega arith in
     let low : c.args.first / c.args.area.now.block ≤ c.loop-b.b = omega arith in
     let high : c.loop-b.b ≤ (c.min-end.result - 1) / c.args.area.now.block = omega arith in
-    let lacks : has c.args.bitmap.now.filled c.loop-b.b ≡ false = sym c.is_filled.ensures.answer ∙ c.if-not-is_filled.true in
+    let lacks : has c.args.bitmap.now.filled c.loop-b.b ≡ false = sym c.is_filled.ensures.answer
+    ∙ c.if-not-is_filled.true in
     record {
-      touched = sym (one_empty c.args.area.now c.args.bitmap.now.filled c.args.first c.args.count c.min-end.result c.loop-b.b
+      touched = sym (one_empty c.args.area.now c.args.bitmap.now.filled c.args.first c.args.count
+          c.min-end.result c.loop-b.b
           (some_sectors c.args.area.now.block c.requires.suitable.blocked) end any low high lacks);
     }
 
@@ -25,7 +27,8 @@ pub returns-else-not-is_filled : goal.returns-else-not-is_filled
 returns-else-not-is_filled c =
     let end : c.min-end.result ≡ min c.args.area.now.image (c.args.first + c.args.count) = omega arith in
     let last : (c.min-end.result - 1) / c.args.area.now.block ≤ c.loop-b.b = omega arith in
-    let held : has c.args.bitmap.now.filled c.loop-b.b ≡ true = sym c.is_filled.ensures.answer ∙ c.if-not-is_filled.false in
+    let held : has c.args.bitmap.now.filled c.loop-b.b ≡ true = sym c.is_filled.ensures.answer
+    ∙ c.if-not-is_filled.false in
     record {
       touched = sym (all_filled c.args.area.now c.args.bitmap.now.filled c.args.first c.args.count c.min-end.result
           (some_sectors c.args.area.now.block c.requires.suitable.blocked) end

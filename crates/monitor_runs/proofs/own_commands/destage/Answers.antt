@@ -13,4 +13,5 @@ returns c =
     let file = c.file.ensures in
     let not_ready = c.in_default.not-Ready in
     subst (λ (p : Physical). IsRunning (job_of own) (done_of own) (seen p).device) (sym c.destage.ensures)
-    (destage_runs (job_of own) (done_of own) 0 (physical_of m.drive m.memory) (grind (arith, file, not_ready)) c.requires)
+    (destage_runs (job_of own) (done_of own) 0 (physical_of m.drive m.memory) (grind (arith, file, not_ready))
+    c.requires)

@@ -14,4 +14,5 @@ returns c =
     let d = m.drive in
     let P : ℕ → Type 0 = λ n. IsLawfulState d.file d.bus n (length d.sectors.store.sectors.items) in
     subst (λ (p : Physical). IsRunning (job_of own) (done_of own) (seen p).device) (sym c.step.ensures)
-    (step_runs (job_of own) (done_of own) c.args.step (physical_of d m.memory) own.fit (subst P (sym d.counted) d.lawful) c.requires)
+    (step_runs (job_of own) (done_of own) c.args.step (physical_of d m.memory) own.fit
+    (subst P (sym d.counted) d.lawful) c.requires)

@@ -23,9 +23,11 @@ loop-byte-preserved g c =
     let room : length c.loop-byte.bytes ≢ g.row.N = λ full. (let no : true ≡ false = sym c.if-not-push.false ∙
     c.push.ensures.full.1 full in absurd cc) in
     record {
-      so_far = more_text c.loop-byte.bytes c.push.new.self c.args.text.now c.loop-byte.rest.now c.in-Some.after.now c.in-Some.byte
+      so_far = more_text c.loop-byte.bytes c.push.new.self c.args.text.now c.loop-byte.rest.now
+          c.in-Some.after.now c.in-Some.byte
           c.loop-byte.invariant.so_far c.in-Some.ensures.told.1 pushed;
-      small = more_bytes c.loop-byte.bytes c.push.new.self c.in-Some.byte c.loop-byte.invariant.small c.in-Some.ensures.told.0 pushed;
+      small = more_bytes c.loop-byte.bytes c.push.new.self c.in-Some.byte c.loop-byte.invariant.small
+          c.in-Some.ensures.told.0 pushed;
       few = omega (arith, ap length pushed, length-append c.loop-byte.bytes (c.in-Some.byte ∷ []), room);
     }
 

@@ -5,8 +5,12 @@ use Rattle.schedule_text.proofs.read.read_write_words.Goals as goal
 
 pub returns-then-hex-ne0 : goal.returns-then-hex-ne0
 returns-then-hex-ne0 c = record {
-  reads = no_write_words c.args.hex.now (omega arith) (λ bytes range even e. omega (arith, ap length e, length-hex_text bytes));
+  reads = no_write_words c.args.hex.now (omega arith)
+      (λ bytes range even e. omega (arith, ap length e, length-hex_text bytes));
 }
 
 pub returns-in-None : goal.returns-in-None
-returns-in-None c = record { reads = no_write_words c.args.hex.now (omega arith) (λ bytes range even. c.in-None.ensures.told bytes range) }
+returns-in-None c = record {
+  reads = no_write_words c.args.hex.now (omega arith)
+      (λ bytes range even. c.in-None.ensures.told bytes range);
+}

@@ -6,5 +6,6 @@ use Rattle.write_cache.proofs.cache.newest_entry.Goals as goal
 
 pub returns : goal.returns
 returns c =
-    find_from_yields_List (is_of c.args.sector) _ _ c.find.result c.find.ensures.ran (yields_reversed c.rev.result) (λ x b q k. search (rules, tests))
+    find_from_yields_List (is_of c.args.sector) _ _ c.find.result c.find.ensures.ran (yields_reversed c.rev.result)
+    (λ x b q k. search (rules, tests))
     ∙ (cc)

@@ -20,7 +20,9 @@ loop-i-preserved c =
     let within : c.loop-i._i < length c.args.ring.now.items = omega arith in
     let front = c.pass_front-passed.ensures in
     record {
-      items = ap (λ b. b.items) front.passed ∙ passes_more _ c.args.ring.now.items c.loop-i.ring.items _ within c.loop-i.invariant.items;
+      items = ap (λ b. b.items) front.passed ∙ passes_more _ c.args.ring.now.items c.loop-i.ring.items
+          _ within c.loop-i.invariant.items;
       room = ap (λ b. b.capacity) front.passed ∙ c.loop-i.invariant.room;
-      number = number_more _ c.args.ring.now.items c.loop-i.ring.items _ _ _ within c.loop-i.invariant.items c.loop-i.invariant.number front.number;
+      number = number_more _ c.args.ring.now.items c.loop-i.ring.items _ _ _ within c.loop-i.invariant.items
+          c.loop-i.invariant.number front.number;
     }

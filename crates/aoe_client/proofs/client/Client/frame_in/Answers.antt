@@ -8,8 +8,10 @@ returns-in_default-clause-took c = took_none (λ tag. is_awaited tag c.args.self
 
 pub returns-then-hear-clause-took : goal.returns-then-hear-clause-took
 returns-then-hear-clause-took c =
-    took_one (λ tag. is_awaited tag c.args.self.now) c.in-Some.tag c.in-Some.ensures.tag (sym c.hear.ensures.awaited ∙ c.if-hear.true)
+    took_one (λ tag. is_awaited tag c.args.self.now) c.in-Some.tag c.in-Some.ensures.tag
+    (sym c.hear.ensures.awaited ∙ c.if-hear.true)
 
 pub returns-else-hear-clause-took : goal.returns-else-hear-clause-took
 returns-else-hear-clause-took c =
-    took_other (λ tag. is_awaited tag c.args.self.now) c.in-Some.tag c.in-Some.ensures.tag (sym c.hear.ensures.awaited ∙ c.if-hear.false)
+    took_other (λ tag. is_awaited tag c.args.self.now) c.in-Some.tag c.in-Some.ensures.tag
+    (sym c.hear.ensures.awaited ∙ c.if-hear.false)

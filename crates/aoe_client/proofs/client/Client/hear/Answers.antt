@@ -15,7 +15,8 @@ returns-clause-kept c source gives holds =
     two.after ∙ ap (λ yet. slot_answered yet tag s.background) two.open in
     let p : c.hear_in-demand.new.pool ≡ slot_filled (is_open_in tag s.demand) tag sectors s.demand pool =
     one.buffer ∙ ap (λ yet. slot_filled yet tag sectors s.demand pool) one.open in
-    let q : c.hear_in-background.new.pool ≡ slot_filled (is_open_in tag s.background) tag sectors s.background c.hear_in-demand.new.pool =
+    let q : c.hear_in-background.new.pool ≡ slot_filled (is_open_in tag s.background) tag sectors
+    s.background c.hear_in-demand.new.pool =
     two.buffer ∙ ap (λ yet. slot_filled yet tag sectors s.background c.hear_in-demand.new.pool) two.open in
     let of_pool = rw (← c.self.view_is) at c.requires.of_pool in
     let room = rw (← c.self.view_is) at c.requires.room in

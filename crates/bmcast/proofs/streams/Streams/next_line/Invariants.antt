@@ -3,7 +3,8 @@ use Rattle.bmcast.proofs.Reading.{TakesFront}
 use Rattle.bmcast.proofs.streams.Streams.next_line.Given as goal
 
 abbrev pub invariant-loop-byte : goal.invariant-loop-byte
-invariant-loop-byte g l = TakesFront l.initial.self l.self (g.H.Host.outside l.initial.host) (g.H.Host.outside l.host) l.line.items
+invariant-loop-byte g l = TakesFront l.initial.self l.self (g.H.Host.outside l.initial.host)
+    (g.H.Host.outside l.host) l.line.items
 
 abbrev pub decreases-loop-byte : goal.decreases-loop-byte
 decreases-loop-byte g l = 4096 - length l.line.items

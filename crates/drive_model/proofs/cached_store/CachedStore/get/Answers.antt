@@ -17,4 +17,5 @@ returns-clause-value g c = on_ok_weaker c.get.result (λ read told.
     let many = told_many _ _ (g.met.S.Store.whole c.args.self.now.store) told in
     let within = c.requires in
     let none = sym c.newest.ensures ∙ ap option_copied c.in_default.is in
-    value_fetched c.args.sector (g.S.Store.sectors c.args.self.now.store).told c.args.self.now.cache c.get.new.into (omega arith) none read told) c.get.ensures.read
+    value_fetched c.args.sector (g.S.Store.sectors c.args.self.now.store).told c.args.self.now.cache c.get.new.into
+    (omega arith) none read told) c.get.ensures.read

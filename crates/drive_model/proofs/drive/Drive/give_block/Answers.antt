@@ -14,4 +14,5 @@ returns-clause-after g c =
     let size : length c.in_ok-words.words ≡ 256 = omega arith in
     given_becomes c.args.order c.args.done (physical_of c.args.self.now []) _ _ c.in_ok-words.words _ _ _ _ _
     (ap (λ (s : Sectors). s.count) unmoved) (λ i. record { durable = list_told (unmoved i).told; cache = cache i })
-    (ap (λ (s : Sectors). s.told) unmoved) stays (whole_block c.in_ok-words.words size) c.in_ok-words.ensures.words c.offer.ensures.after
+    (ap (λ (s : Sectors). s.told) unmoved) stays (whole_block c.in_ok-words.words size) c.in_ok-words.ensures.words
+    c.offer.ensures.after

@@ -10,7 +10,8 @@ use Rattle.drive_model.proofs.drive.Drive.good_step.Goals as goal
 pub returns-in-Reset-clause-answer : goal.returns-in-Reset-clause-answer
 returns-in-Reset-clause-answer g c =
     c.end_reset.ensures.answer c.args.memory.now
-    ∙ ap (λ (phase : Phase). stepped_if (acts_in Good phase (seen (physical_of c.args.self.now c.args.memory.now)))) (sym c.in-Reset.is)
+    ∙ ap (λ (phase : Phase). stepped_if (acts_in Good phase (seen (physical_of c.args.self.now c.args.memory.now))))
+    (sym c.in-Reset.is)
 
 pub returns-in-Busy-Bad-default-clause-after : goal.returns-in-Busy-Bad-default-clause-after
 returns-in-Busy-Bad-default-clause-after g c =

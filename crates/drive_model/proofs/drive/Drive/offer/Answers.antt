@@ -9,4 +9,6 @@ use Rattle.drive_model.proofs.drive.Drive.offer.Goals as goal
 pub returns-clause-after : goal.returns-clause-after
 returns-clause-after g c = λ memory.
     c.put_block.ensures.after memory
-    ∙ ap (λ (file : TaskFile). worked leaves (λ (p : Plain). with_registers file (with_block (block_of c.args.block c.args.words) p)) (physical_of c.args.self.now memory)) c.announce.ensures
+    ∙ ap (λ (file : TaskFile). worked leaves
+    (λ (p : Plain). with_registers file (with_block (block_of c.args.block c.args.words) p))
+    (physical_of c.args.self.now memory)) c.announce.ensures

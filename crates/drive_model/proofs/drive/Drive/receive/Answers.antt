@@ -7,4 +7,5 @@ use Rattle.drive_model.proofs.drive.Drive.receive.Goals as goal
 pub returns-then-done-eq0-clause-after : goal.returns-then-done-eq0-clause-after
 returns-then-done-eq0-clause-after g c =
     let stays = same_told _ _ c.want_first.ensures.sectors in
-    first_becomes c.args.order c.args.done (physical_of c.args.self.now []) _ _ _ c.if-done-eq0.true stays c.want_first.ensures.after
+    first_becomes c.args.order c.args.done (physical_of c.args.self.now []) _ _ _ c.if-done-eq0.true
+    stays c.want_first.ensures.after

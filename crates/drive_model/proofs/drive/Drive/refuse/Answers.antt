@@ -9,5 +9,6 @@ use Rattle.drive_model.proofs.drive.Drive.refuse.Goals as goal
 pub returns-clause-after : goal.returns-clause-after
 returns-clause-after g c = λ step memory.
     c.put_file.ensures.after memory
-    ∙ ap (λ (file : TaskFile). worked leaves (with_registers file) (physical_of c.args.self.now memory)) c.refuse.ensures
+    ∙ ap (λ (file : TaskFile). worked leaves (with_registers file) (physical_of c.args.self.now memory))
+    c.refuse.ensures
     ∙ refused_ends step c.args.reason c.args.done (physical_of c.args.self.now memory) c.requires

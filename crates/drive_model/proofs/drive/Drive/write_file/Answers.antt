@@ -11,19 +11,25 @@ use Rattle.drive_model.proofs.drive.Drive.write_file.Goals as goal
 pub put_file-requires : goal.put_file-requires
 put_file-requires g c =
     rw c.in-Stored.ensures.after
-    (stored_lawful c.args.reg c.args.v c.args.self.now.file c.args.self.now.bus c.args.self.now.words (g.S.Store.sectors c.args.self.now.sectors.store).count (sym c.in-Stored.ensures.wrote) c.args.self.now.lawful)
+    (stored_lawful c.args.reg c.args.v c.args.self.now.file c.args.self.now.bus c.args.self.now.words
+    (g.S.Store.sectors c.args.self.now.sectors.store).count (sym c.in-Stored.ensures.wrote) c.args.self.now.lawful)
 
 pub put_file-requires-in-Command : goal.put_file-requires-in-Command
 put_file-requires-in-Command g c =
-    let after = λ (f : TaskFile). IsLawfulState (in_hand c.in-Command.byte (g.S.Store.sectors c.args.self.now.sectors.store).count f) c.args.self.now.bus c.args.self.now.words (g.S.Store.sectors c.args.self.now.sectors.store).count in
+    let after = λ (f : TaskFile). IsLawfulState
+    (in_hand c.in-Command.byte (g.S.Store.sectors c.args.self.now.sectors.store).count f) c.args.self.now.bus
+    c.args.self.now.words (g.S.Store.sectors c.args.self.now.sectors.store).count in
     rw (c.of.ensures, c.read_request-order.ensures, c.sectors.ensures)
     (subst after (sym c.write.ensures.after)
-    (command_lawful c.args.reg c.args.v c.in-Command.byte c.args.self.now.file c.args.self.now.bus c.args.self.now.words (g.S.Store.sectors c.args.self.now.sectors.store).count (sym c.write.ensures.wrote ∙ c.in-Command.is) c.args.self.now.lawful))
+    (command_lawful c.args.reg c.args.v c.in-Command.byte c.args.self.now.file c.args.self.now.bus
+    c.args.self.now.words (g.S.Store.sectors c.args.self.now.sectors.store).count
+    (sym c.write.ensures.wrote ∙ c.in-Command.is) c.args.self.now.lawful))
 
 pub invariant_of-self-clause-lawful : goal.invariant_of-self-clause-lawful
 invariant_of-self-clause-lawful g c =
     rw c.reset_in.ensures
-    (bus_in_reset_lawful c.args.self.now.file.phase c.args.self.now.file c.args.self.now.bus c.args.self.now.words (g.S.Store.sectors c.args.self.now.sectors.store).count c.args.self.now.lawful)
+    (bus_in_reset_lawful c.args.self.now.file.phase c.args.self.now.file c.args.self.now.bus c.args.self.now.words
+    (g.S.Store.sectors c.args.self.now.sectors.store).count c.args.self.now.lawful)
 
 pub put_file-requires-in-ResetBegun : goal.put_file-requires-in-ResetBegun
 put_file-requires-in-ResetBegun g c =

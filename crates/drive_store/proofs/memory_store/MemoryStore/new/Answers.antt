@@ -12,11 +12,16 @@ loop-preserved c =
 pub invariant_of-result : goal.invariant_of-result
 invariant_of-result c =
     let P : List ℕ → Type 0 = λ bytes. length bytes ≡ 512 in
-    record { sizes = All-same P c.loop.zeros.items _ c.loop.invariant (All-replicate P c.loop.counter (replicate 512 0) (length-replicate {A = ℕ} 512 0)) }
+    record {
+      sizes = All-same P c.loop.zeros.items _ c.loop.invariant
+          (All-replicate P c.loop.counter (replicate 512 0) (length-replicate {A = ℕ} 512 0));
+    }
 
 pub returns : goal.returns
 returns c =
     let all : c.loop.counter ≡ c.args.sectors = omega arith in
-    let items : c.loop.zeros.items ≡ replicate c.args.sectors (replicate 512 0) = c.loop.invariant ∙ ap (λ n. replicate n (replicate 512 0)) all in
-    let number : length c.loop.zeros.items ≡ c.args.sectors = ap length items ∙ length-replicate c.args.sectors (replicate 512 0) in
+    let items : c.loop.zeros.items ≡ replicate c.args.sectors (replicate 512 0) = c.loop.invariant
+    ∙ ap (λ n. replicate n (replicate 512 0)) all in
+    let number : length c.loop.zeros.items ≡ c.args.sectors = ap length items ∙ length-replicate c.args.sectors
+    (replicate 512 0) in
     (λ i. record { count = number i; told = Some (items i) })

@@ -9,6 +9,8 @@ pub invariant_of-self : goal.invariant_of-self
 invariant_of-self c =
     let f = c.args.self.now in
     record {
-      flies = λ e. subst (λ (p : Physical). IsInFlight f.dummy.sector f.dummy.cancelled (seen p).device) (sym c.step.ensures)
-          (step_runs f.dummy.sector f.dummy.cancelled c.args.step (physical_of f.machine.drive f.machine.memory) (f.flies e));
+      flies = λ e. subst (λ (p : Physical). IsInFlight f.dummy.sector f.dummy.cancelled (seen p).device)
+          (sym c.step.ensures)
+          (step_runs f.dummy.sector f.dummy.cancelled c.args.step (physical_of f.machine.drive f.machine.memory)
+          (f.flies e));
     }

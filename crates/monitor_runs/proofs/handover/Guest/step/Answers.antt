@@ -10,5 +10,6 @@ invariant_of-self c =
     let guest = c.args.self.now in
     record {
       kept = subst (λ (p : Physical). IsKept guest.side.view p.file) (sym c.step.ensures)
-          (step-kept guest.side.view c.args.step (seen (physical_of guest.machine.drive guest.machine.memory)) guest.kept);
+          (step-kept guest.side.view c.args.step (seen (physical_of guest.machine.drive guest.machine.memory))
+          guest.kept);
     }

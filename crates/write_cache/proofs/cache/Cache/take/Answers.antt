@@ -6,5 +6,10 @@ pub invariant_of-self : goal.invariant_of-self
 invariant_of-self c =
     let items = c.self.inside.ring.items in (
       omega (arith, ap (λ b. b.capacity) c.take_out.ensures.after),
-      omega (arith, ap (λ b. b.capacity) c.take_out.ensures.after, ap (λ b. length b.items) c.take_out.ensures.after, length-taken_at-le c.args.k items),
+      omega (
+        arith,
+        ap (λ b. b.capacity) c.take_out.ensures.after,
+        ap (λ b. length b.items) c.take_out.ensures.after,
+        length-taken_at-le c.args.k items,
+      ),
     )
