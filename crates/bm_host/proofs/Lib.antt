@@ -1,4 +1,3 @@
 pub mod NamedLaws
 pub mod OutsideLaws
-pub mod QuietLaws
 pub mod WrittenLaws

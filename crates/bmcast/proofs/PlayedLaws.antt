@@ -1,5 +1,5 @@
 -- The events that were read and done, one after the other.
-use Rattle.std.proofs.Common.{◌≡◌, ◌≢◌, ◌+◌, ◌≤◌, ◌++◌, ℕ, List, [], ◌∷◌, length, suc, refl, sym, ◌∙◌, ap, subst, arith}
+use Rattle.std.proofs.Common.{◌≡◌, ◌≢◌, ◌+◌, ◌≤◌, ◌++◌, ℕ, List, [], ◌∷◌, length, sym, ◌∙◌, ap, subst, arith}
 use Rattle.bm_host.specs.declared.Role.TheVariants.{Schedule}
 use Rattle.bm_host.specs.Outside.{Outside, IfTold, SameCounts}
 use Rattle.bm_host.proofs.OutsideLaws.{same_counts_trans}
@@ -14,6 +14,7 @@ use Rattle.schedule_text.specs.Schedule.{HasNoEnd, HasRead}
 use Rattle.schedule_text.specs.BadLine.{LineFails, FailsAt}
 use Rattle.plain_run.specs.Entry.{Entry, entry_of, events_of, history_text, items_text}
 use Rattle.plain_run.specs.Run.{DriveEvent}
+use Rattle.plain_run.proofs.Entries.{events_length}
 use Rattle.bmcast.specs.declared.play.Progress.{Progress}
 use Rattle.bmcast.specs.declared.play.Progress.TheVariants as progress
 use Rattle.bmcast.specs.declared.streams.Streams.{Streams}
@@ -22,11 +23,6 @@ use Rattle.bmcast.specs.Streams.{unread, Said, KeepsSaid, Reports}
 use Rattle.bmcast.specs.Played.{HasPlayed, HasTaken, HasDone, HasDoneEnd, HasEnded, IsNextLine, IsPlayed, Leads, HasFailed}
 use Rattle.bmcast.proofs.Told.{IfTold-both, IfTold-weaker, IfTold-same}
 use Rattle.bmcast.proofs.Lines.{read_next, fails_next}
-
--- a history has as many events as entries
-events_length : (entries : List Entry) → length (events_of entries) ≡ length entries
-events_length [] = refl
-events_length (entry ∷ entries) = ap suc (events_length entries)
 
 -- what was reported stays reported, when nothing else was
 still_played : (start : Physical) (from to : Streams) (old new : Outside) (now : Physical) (entries : List Entry)

@@ -4,6 +4,7 @@ use Rattle.bm_host.specs.Outside.{Outside, IfTold, SameCounts}
 use Rattle.bm_host.proofs.OutsideLaws.{same_counts_trans}
 use Rattle.bm_host.specs.declared.Role.TheVariants.{Schedule}
 use Rattle.schedule_text.specs.Schedule.{IsOneLine}
+use Rattle.schedule_text.proofs.Lines.{IsOneLine-push}
 use Rattle.bmcast.specs.declared.streams.Streams.{Streams}
 use Rattle.bmcast.proofs.Told.{IfTold-both, IfTold-same}
 use Rattle.bmcast.specs.Kept.{KeepsFiles}
@@ -16,11 +17,6 @@ pub record TakesFront (from to : Streams) (old new : Outside) (front : List ℕ)
   pub said : KeepsSaid from to old new
   pub bytes : IfTold (old.told Schedule) (λ text. unread from old text ≡ front ++ unread to new text)
   pub one : IsOneLine front
-
--- a byte more that isn't a line feed
-IsOneLine-push : (line : List ℕ) (byte : ℕ) → IsOneLine line → byte ≢ 10 → IsOneLine (line ++ byte ∷ [])
-IsOneLine-push [] byte one differs = (differs, tt)
-IsOneLine-push (c ∷ line) byte one differs = (one.0, IsOneLine-push line byte one.1 differs)
 
 -- one byte more was taken
 pub TakesFront-push : (from mid to : Streams) (old now new : Outside) (front : List ℕ) (byte : ℕ)

@@ -1,11 +1,12 @@
 -- The report's lines for one event, appended one by one.
-use Rattle.std.proofs.Common.{◌≡◌, ◌++◌, ◌+◌, ◌<◌, ℕ, List, [], ◌∷◌, length, take, get_or, append_assoc, append-nil, ◌∙◌, ap, sym, subst}
+use Rattle.std.proofs.Common.{◌≡◌, ◌++◌, ◌+◌, ◌<◌, ℕ, List, [], ◌∷◌, length, take, get_or, append_assoc, ◌∙◌, ap, sym, subst}
 use Rattle.std.proofs.lemmas.List.{take_more}
 use Rattle.bm_host.specs.Outside.{Outside, SameCounts}
 use Rattle.bm_host.proofs.OutsideLaws.{same_counts_trans}
 use Rattle.schedule_text.specs.declared.Item.{Item}
 use Rattle.schedule_text.specs.Report.{line_text}
 use Rattle.plain_run.specs.Entry.{items_text}
+use Rattle.plain_run.proofs.Entries.{items_text-push}
 use Rattle.bmcast.specs.declared.streams.Streams.{Streams}
 use Rattle.bmcast.specs.Kept.{KeepsFiles}
 use Rattle.bmcast.specs.Streams.{Said, Reports}
@@ -15,14 +16,6 @@ pub record ReportsFront (from to : Streams) (old new : Outside) (lines : List �
   pub counts : SameCounts old new
   pub files : KeepsFiles old new
   pub reports : Reports from to old new lines
-
--- a line more
-items_text-push : (number : ℕ) (items : List Item) (one : Item) (bytes : List ℕ)
-    → items_text number (items ++ one ∷ []) bytes ≡ items_text number items bytes ++ line_text number one bytes
-items_text-push number [] one bytes = append-nil (line_text number one bytes)
-items_text-push number (first ∷ items) one bytes =
-    ap (λ xs. line_text number first bytes ++ xs) (items_text-push number items one bytes)
-    ∙ sym (append_assoc (line_text number first bytes) (items_text number items bytes) (line_text number one bytes))
 
 pub ReportsFront-line : (from mid to : Streams) (old now new : Outside) (number i : ℕ) (items shown : List Item)
     (d : Item) (bytes : List ℕ)

@@ -20,11 +20,11 @@ why_name why.NotBegun = codes "NotBegun"
 
 -- a line fault's name
 abbrev pub fault_name : LineFault → List ℕ
+fault_name fault.LongLine = codes "LongLine"
 fault_name fault.Form = codes "Form"
 fault_name fault.Number = codes "Number"
-fault_name fault.LongLine = codes "LongLine"
-fault_name fault.NoEnd = codes "NoEnd"
 fault_name fault.TooMany = codes "TooMany"
+fault_name fault.NoEnd = codes "NoEnd"
 fault_name fault.Trailing = codes "Trailing"
 
 -- a role's name

@@ -102,11 +102,11 @@ fn fault_name(fault: LineFault) -> &'static [u8]
     ensures short { length result.now ≤ 20 }
 {
     match fault {
+        LineFault::LongLine => b"LongLine",
         LineFault::Form => b"Form",
         LineFault::Number => b"Number",
-        LineFault::LongLine => b"LongLine",
-        LineFault::NoEnd => b"NoEnd",
         LineFault::TooMany => b"TooMany",
+        LineFault::NoEnd => b"NoEnd",
         LineFault::Trailing => b"Trailing",
     }
 }

@@ -182,11 +182,6 @@ pub no_entries-stored : (n : ℕ) (durable : List (List ℕ)) → cells_from n [
 no_entries-stored n [] = refl
 no_entries-stored n (value ∷ durable) = ap (λ cells. settled value ∷ cells) (no_entries-stored (suc n) durable)
 
--- after a flush all values are durable
-pub flushed-stored : (kept : Kept) → cells_of (kept_after flushes kept) ≡ stored
-    (all_durable kept.cache.entries kept.durable)
-flushed-stored kept = no_entries-stored 0 (all_durable kept.cache.entries kept.durable)
-
 -- a store is an end of itself
 stored_ends : (durable : List (List ℕ)) → AreEndsOf (stored durable) (stored durable)
 stored_ends [] = tt

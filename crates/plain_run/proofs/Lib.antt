@@ -1,3 +1,4 @@
+pub mod Entries
 pub mod Noted
 pub mod Standing
 pub mod Kept

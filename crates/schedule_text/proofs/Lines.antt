@@ -8,6 +8,11 @@ pub some_bytes : (xs ys : List ℕ) (y : ℕ) → xs ++ y ∷ ys ≢ []
 some_bytes [] ys y e = cc
 some_bytes (x ∷ xs) ys y e = cc
 
+-- a line with a byte more that isn't a line feed
+pub IsOneLine-push : (line : List ℕ) (byte : ℕ) → IsOneLine line → byte ≢ 10 → IsOneLine (line ++ byte ∷ [])
+IsOneLine-push [] byte one differs = (differs, tt)
+IsOneLine-push (c ∷ line) byte one differs = (one.0, IsOneLine-push line byte one.1 differs)
+
 -- the first line, up to its line feed
 pub first_line-line : (line rest : List ℕ) → IsOneLine line → first_line (line ++ 10 ∷ rest) ≡ line
 first_line-line [] rest one = refl
