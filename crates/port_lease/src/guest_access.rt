@@ -8,9 +8,10 @@ ghost use Rattle.port_lease.specs.Quiet.{IsQuiet};
 ghost use Rattle.port_lease.specs.View.{IsKept, IsGiven, is_of_command, is_command, reached, file_kept, bus_kept, pointer_kept, control_kept, with_kept};
 ghost use Rattle.port_lease.specs.Seen.{on_guest_side};
 ghost use Rattle.port_lease.specs.Sides.{view_kept};
-ghost use Rattle.port_lease.specs.Writing.{is_plain_register, plainly_written, asked};
+ghost use Rattle.port_lease.specs.Writing.{is_plain_register, asked};
 
 use crate::reading::peek;
+use crate::writing::put_register;
 use crate::{GuestSide, View};
 use ata_taskfile::registers::{ACTIVE, BSY, BUS_ERROR, DEV, HOB, INTERRUPT, NIEN, SRST, has_bit};
 use ata_taskfile::{Access, Answer, Bus, Ports, Reg, TaskFile, perform};
@@ -184,7 +185,7 @@ fn write_plain<P: Ports>(kept: &mut TaskFile, ports: &mut P, reg: Reg, v: u8)
     ensures rest { P.rest ports.new ≡ P.rest ports.old }
 {
     let ignored = is_at_work(ports);
-    put(ports, reg, v);
+    put_register(ports, reg, v);
     if ignored {
         return;
     }
@@ -192,15 +193,6 @@ fn write_plain<P: Ports>(kept: &mut TaskFile, ports: &mut P, reg: Reg, v: u8)
     if let Reg::Error = reg {
         kept.features = v;
     }
-}
-
-#[tactic(auto, using(crate::proofs::Plain::plainly))]
-fn put<P: Ports>(ports: &mut P, reg: Reg, v: u8)
-    requires plain { is_plain_register reg ≡ true }
-    ensures written { P.device ports.new ≡ plainly_written reg v (P.device ports.old) }
-    ensures rest { P.rest ports.new ≡ P.rest ports.old }
-{
-    ports.write8(reg, v);
 }
 
 // Whether the drive is at work, and so ignores what is written to the command block: BSY says so, but for DEV at 1.
@@ -224,9 +216,9 @@ fn ignores<P: Ports>(ports: &mut P, device: u8) -> bool
     ensures asked { P.device ports.new ≡ asked (P.device ports.old) }
     ensures rest { P.rest ports.new ≡ P.rest ports.old }
 {
-    put(ports, Reg::Device, other(device));
+    put_register(ports, Reg::Device, other(device));
     let ignored = peek(ports, Reg::Device) == device;
-    put(ports, Reg::Device, device);
+    put_register(ports, Reg::Device, device);
     ignored
 }
 

@@ -7,7 +7,7 @@ ghost use Rattle.ata_taskfile.specs.Order.{inputs, order_of, taken};
 ghost use Rattle.ata_taskfile.specs.Bus.{bit_shown};
 ghost use Rattle.ata_taskfile.specs.Device.{with_bus};
 ghost use Rattle.port_lease.specs.Handover.{after_take};
-ghost use Rattle.port_lease.specs.Writing.{is_plain_register, with_registers, IsAtRest, bus_put, bus_started};
+ghost use Rattle.port_lease.specs.Writing.{is_plain_register, plainly_written, with_registers, IsAtRest, bus_put, bus_started};
 
 use crate::reading::peek;
 use ata_taskfile::registers::{INWARD, START};
@@ -34,13 +34,13 @@ pub fn put_control<P: Ports>(ports: &mut P, v: u8)
     ports.write8(Reg::Alternate, v);
 }
 
-/// Writes a register of the command block other than Command, of a drive at rest. In one of two bytes the byte
-/// becomes the current one, and what was current the previous one (ATA/ATAPI-6, 48-bit Address feature set).
+/// Writes a register of the command block other than Command. A drive at work ignores it. In one of two bytes the byte
+/// becomes the current one, and what was current the previous one (ATA/ATAPI-6, BSY bit and 48-bit Address feature
+/// set).
+#[tactic(auto, using(crate::proofs::Plain::plainly))]
 pub fn put_register<P: Ports>(ports: &mut P, reg: Reg, v: u8)
     requires plain { is_plain_register reg ≡ true }
-    requires rests { IsAtRest (P.device ports.old).file }
-    ensures put { let d = P.device ports.old in
-        P.device ports.new ≡ record d { file = stored reg v d.file } }
+    ensures put { P.device ports.new ≡ plainly_written reg v (P.device ports.old) }
     ensures rest { P.rest ports.new ≡ P.rest ports.old }
 {
     ports.write8(reg, v);
