@@ -11,7 +11,11 @@ ghost use Rattle.ata_taskfile.specs.Order.{inputs, has_range, narrow, wide, coun
 #[cfg(test)]
 mod tests;
 
-use ata_taskfile::registers::{LBA, has_bit};
+use ata_taskfile::registers::{
+    ADDRESS_BITS, ENABLE_WRITE_CACHE, FLUSH_CACHE, FLUSH_CACHE_EXT, IDENTIFY_DEVICE, LBA, READ_DMA,
+    READ_DMA_EXT, READ_SECTORS, READ_SECTORS_EXT, READ_VERIFY, READ_VERIFY_EXT, SET_FEATURES,
+    SET_TRANSFER_MODE, WRITE_DMA, WRITE_DMA_EXT, WRITE_SECTORS, WRITE_SECTORS_EXT, has_bit,
+};
 use ata_taskfile::{Form, Kind, Refused, Request, TaskFile};
 
 /// The order that the byte `command` gives over the registers of `file`, on a drive of `sectors` sectors, or the
@@ -23,28 +27,20 @@ pub fn read_request(file: &TaskFile, command: u8, sectors: u64) -> Result<Reques
     ensures { result ≡ order_of command (inputs file.now) sectors }
 {
     match command {
-        // READ SECTOR(S), EXT
-        0x20 => in_28_bits(file, Kind::Read, Form::PioIn, sectors),
-        0x24 => in_48_bits(file, Kind::Read, Form::PioIn, sectors),
-        // READ DMA, EXT
-        0xc8 => in_28_bits(file, Kind::Read, Form::DmaIn, sectors),
-        0x25 => in_48_bits(file, Kind::Read, Form::DmaIn, sectors),
-        // WRITE SECTOR(S), EXT
-        0x30 => in_28_bits(file, Kind::Write, Form::PioOut, sectors),
-        0x34 => in_48_bits(file, Kind::Write, Form::PioOut, sectors),
-        // WRITE DMA, EXT
-        0xca => in_28_bits(file, Kind::Write, Form::DmaOut, sectors),
-        0x35 => in_48_bits(file, Kind::Write, Form::DmaOut, sectors),
-        // READ VERIFY SECTOR(S), EXT
-        0x40 => in_28_bits(file, Kind::Verify, Form::NoMove, sectors),
-        0x42 => in_48_bits(file, Kind::Verify, Form::NoMove, sectors),
-        // FLUSH CACHE, EXT
-        0xe7 => without_range(Kind::Flush, Form::NoMove, false, sectors),
-        0xea => without_range(Kind::Flush, Form::NoMove, true, sectors),
-        // IDENTIFY DEVICE
-        0xec => without_range(Kind::Identify, Form::PioIn, false, sectors),
-        // SET FEATURES
-        0xef => set_features(file, sectors),
+        READ_SECTORS => in_28_bits(file, Kind::Read, Form::PioIn, sectors),
+        READ_SECTORS_EXT => in_48_bits(file, Kind::Read, Form::PioIn, sectors),
+        READ_DMA => in_28_bits(file, Kind::Read, Form::DmaIn, sectors),
+        READ_DMA_EXT => in_48_bits(file, Kind::Read, Form::DmaIn, sectors),
+        WRITE_SECTORS => in_28_bits(file, Kind::Write, Form::PioOut, sectors),
+        WRITE_SECTORS_EXT => in_48_bits(file, Kind::Write, Form::PioOut, sectors),
+        WRITE_DMA => in_28_bits(file, Kind::Write, Form::DmaOut, sectors),
+        WRITE_DMA_EXT => in_48_bits(file, Kind::Write, Form::DmaOut, sectors),
+        READ_VERIFY => in_28_bits(file, Kind::Verify, Form::NoMove, sectors),
+        READ_VERIFY_EXT => in_48_bits(file, Kind::Verify, Form::NoMove, sectors),
+        FLUSH_CACHE => without_range(Kind::Flush, Form::NoMove, false, sectors),
+        FLUSH_CACHE_EXT => without_range(Kind::Flush, Form::NoMove, true, sectors),
+        IDENTIFY_DEVICE => without_range(Kind::Identify, Form::PioIn, false, sectors),
+        SET_FEATURES => set_features(file, sectors),
         _ => Err(Refused::Abort),
     }
 }
@@ -90,7 +86,12 @@ fn set_features(file: &TaskFile, sectors: u64) -> Result<Request, Refused>
     ensures { result ≡ order_in (narrow Kind.Features Form.NoMove) (inputs file.now) sectors }
 {
     match file.features {
-        2 | 3 => without_range(Kind::Features, Form::NoMove, false, sectors),
+        ENABLE_WRITE_CACHE | SET_TRANSFER_MODE => without_range(
+            Kind::Features,
+            Form::NoMove,
+            false,
+            sectors,
+        ),
         _ => Err(Refused::Abort),
     }
 }
@@ -125,7 +126,12 @@ fn without_range(kind: Kind, form: Form, extended: bool, sectors: u64) -> Result
 fn first_28(file: &TaskFile) -> u32
     ensures { result ≡ first_28 (inputs file.now) }
 {
-    u32::from_le_bytes([file.low[0], file.mid[0], file.high[0], file.device & 0x0f])
+    u32::from_le_bytes([
+        file.low[0],
+        file.mid[0],
+        file.high[0],
+        file.device & ADDRESS_BITS,
+    ])
 }
 
 fn first_48(file: &TaskFile) -> u64

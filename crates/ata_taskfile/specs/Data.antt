@@ -6,6 +6,7 @@ use Rattle.ata_taskfile.specs.declared.Request.{Request}
 use Rattle.ata_taskfile.specs.declared.Taken.TheVariants.{Good, Bad}
 use Rattle.ata_taskfile.specs.declared.Phase.{Phase}
 use Rattle.ata_taskfile.specs.declared.Phase.TheVariants.{Reset, Idle, Busy, Ready}
+use Rattle.ata_taskfile.specs.declared.registers.TheConstants.{BLOCK_WORDS}
 
 -- a command whose words are read from Data (ATA/ATAPI-6, PIO data-in)
 abbrev pub gives_words : Form → Bool
@@ -56,7 +57,7 @@ left_in (Ready taken done left) = left
 
 -- what a read of Data answers: the next word of the block, and FFFFh outside a transfer (own)
 abbrev pub word_in : Phase → List ℕ → ℕ
-word_in phase block = if is_given phase then slice_index block (256 - left_in phase) else 65535
+word_in phase block = if is_given phase then slice_index block (BLOCK_WORDS - left_in phase) else 65535
 
 -- the phase when the last word of a block was read: the next sector is due, or the command has ended
 -- (ATA/ATAPI-6, PIO data-in)

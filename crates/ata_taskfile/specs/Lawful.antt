@@ -10,7 +10,7 @@ use Rattle.ata_taskfile.specs.declared.Phase.{Phase}
 use Rattle.ata_taskfile.specs.declared.Phase.TheVariants.{Reset, Idle, Busy, Ready}
 use Rattle.ata_taskfile.specs.declared.task_file.TaskFile.{TaskFile}
 use Rattle.ata_taskfile.specs.declared.bus_master.Bus.{Bus}
-use Rattle.ata_taskfile.specs.declared.registers.TheConstants.{SRST, DEV}
+use Rattle.ata_taskfile.specs.declared.registers.TheConstants.{SRST, CONTROL_BITS, DEV, BLOCK_WORDS}
 use Rattle.ata_taskfile.specs.TaskFile.{has_bit}
 use Rattle.ata_taskfile.specs.Order.{has_range, count_without_range}
 use Rattle.ata_taskfile.specs.Data.{gives_words, takes_words, moves_by_bus, left_in}
@@ -126,13 +126,13 @@ pub record IsLawfulPhase (phase : Phase) : Type 0 where
   pub possible : has_possible_order phase ≡ true
   pub goes_on : position_of phase < position_end phase
   pub some_left : 0 < some_left_in phase
-  pub most_left : left_in phase ≤ 256
+  pub most_left : left_in phase ≤ BLOCK_WORDS
 
 -- registers and bus master as every device has them, by what the rules look at (own)
 pub record AreLawful (control device error : ℕ) (failed pending : Bool) (phase : Phase)
     (b : Bus) : Type 0 where
-  -- Device Control has no bits but HOB, SRST and nIEN (86h), and SRST in reset alone
-  pub kept : bit_and control 134 ≡ control
+  -- Device Control has no bits but HOB, SRST and nIEN, and SRST in reset alone
+  pub kept : bit_and control CONTROL_BITS ≡ control
   pub held : has_bit SRST control ≡ true → is_in_reset phase ≡ true
   -- a command in hand has no Error and isn't failed
   pub no_error : has_order phase ≡ true → error ≡ 0
@@ -170,9 +170,9 @@ abbrev pub words_in : Phase → ℕ → ℕ
 words_in Reset words = words
 words_in Idle words = words
 words_in (Busy (Good order) done) words =
-    if takes_words order.form && not (done == 0) then 256 else words
+    if takes_words order.form && not (done == 0) then BLOCK_WORDS else words
 words_in (Busy (Bad reason) done) words = words
-words_in (Ready (Good order) done left) words = if takes_words order.form then 256 - left else 256
+words_in (Ready (Good order) done left) words = if takes_words order.form then BLOCK_WORDS - left else BLOCK_WORDS
 words_in (Ready (Bad reason) done left) words = words
 
 -- registers, bus master, block of so many words and count of sectors as every device has them

@@ -11,7 +11,7 @@ use Rattle.ata_taskfile.specs.declared.Taken.{Taken}
 use Rattle.ata_taskfile.specs.declared.Taken.TheVariants.{Good, Bad}
 use Rattle.ata_taskfile.specs.declared.task_file.TaskFile.{TaskFile}
 use Rattle.ata_taskfile.specs.TaskFile.{has_bit}
-use Rattle.ata_taskfile.specs.declared.registers.TheConstants.{LBA}
+use Rattle.ata_taskfile.specs.declared.registers.TheConstants.{LBA, READ_SECTORS, READ_SECTORS_EXT, READ_DMA, READ_DMA_EXT, WRITE_SECTORS, WRITE_SECTORS_EXT, WRITE_DMA, WRITE_DMA_EXT, READ_VERIFY, READ_VERIFY_EXT, FLUSH_CACHE, FLUSH_CACHE_EXT, IDENTIFY_DEVICE, SET_FEATURES, ENABLE_WRITE_CACHE, SET_TRANSFER_MODE}
 
 -- the registers that a command reads (ATA/ATAPI-6, inputs of a command)
 pub record Inputs : Type 0 where
@@ -51,34 +51,20 @@ wide kind form = Some (record { kind = kind; form = form; extended = true })
 -- own: which commands there are)
 abbrev pub row_of : ℕ → Option Row
 row_of byte =
-    -- 20h READ SECTOR(S)
-    if byte == 32 then narrow Read PioIn else
-    -- 24h READ SECTOR(S) EXT
-    if byte == 36 then wide Read PioIn else
-    -- C8h READ DMA
-    if byte == 200 then narrow Read DmaIn else
-    -- 25h READ DMA EXT
-    if byte == 37 then wide Read DmaIn else
-    -- 30h WRITE SECTOR(S)
-    if byte == 48 then narrow Write PioOut else
-    -- 34h WRITE SECTOR(S) EXT
-    if byte == 52 then wide Write PioOut else
-    -- CAh WRITE DMA
-    if byte == 202 then narrow Write DmaOut else
-    -- 35h WRITE DMA EXT
-    if byte == 53 then wide Write DmaOut else
-    -- 40h READ VERIFY SECTOR(S)
-    if byte == 64 then narrow Verify NoMove else
-    -- 42h READ VERIFY SECTOR(S) EXT
-    if byte == 66 then wide Verify NoMove else
-    -- E7h FLUSH CACHE
-    if byte == 231 then narrow Flush NoMove else
-    -- EAh FLUSH CACHE EXT
-    if byte == 234 then wide Flush NoMove else
-    -- ECh IDENTIFY DEVICE
-    if byte == 236 then narrow Identify PioIn else
-    -- EFh SET FEATURES
-    if byte == 239 then narrow Features NoMove else
+    if byte == READ_SECTORS then narrow Read PioIn else
+    if byte == READ_SECTORS_EXT then wide Read PioIn else
+    if byte == READ_DMA then narrow Read DmaIn else
+    if byte == READ_DMA_EXT then wide Read DmaIn else
+    if byte == WRITE_SECTORS then narrow Write PioOut else
+    if byte == WRITE_SECTORS_EXT then wide Write PioOut else
+    if byte == WRITE_DMA then narrow Write DmaOut else
+    if byte == WRITE_DMA_EXT then wide Write DmaOut else
+    if byte == READ_VERIFY then narrow Verify NoMove else
+    if byte == READ_VERIFY_EXT then wide Verify NoMove else
+    if byte == FLUSH_CACHE then narrow Flush NoMove else
+    if byte == FLUSH_CACHE_EXT then wide Flush NoMove else
+    if byte == IDENTIFY_DEVICE then narrow Identify PioIn else
+    if byte == SET_FEATURES then narrow Features NoMove else
     None
 
 -- a kind of command that names sectors
@@ -159,10 +145,10 @@ request_of row i = record {
 abbrev pub names_sectors : Inputs → Bool
 names_sectors i = has_bit LBA i.device
 
--- a subcommand of SET FEATURES that is accepted: 02h and 03h (ATA/ATAPI-6, SET FEATURES;
--- own: these two, with any Count)
+-- a subcommand of SET FEATURES that is accepted (ATA/ATAPI-6, SET FEATURES; own: these two, with any
+-- Count)
 abbrev pub has_feature : Inputs → Bool
-has_feature i = (i.features == 2) || (i.features == 3)
+has_feature i = (i.features == ENABLE_WRITE_CACHE) || (i.features == SET_TRANSFER_MODE)
 
 -- the registers are such as a command of this kind wants them
 abbrev pub is_accepted : Kind → Bool → Inputs → Bool

@@ -9,7 +9,7 @@ use Rattle.ata_taskfile.specs.declared.Refused.TheVariants.{Abort, NotFound}
 use Rattle.ata_taskfile.specs.declared.Wrote.{Wrote}
 use Rattle.ata_taskfile.specs.declared.Wrote.TheVariants.{Stored, Ignored, Command, ResetBegun}
 use Rattle.ata_taskfile.specs.declared.task_file.TaskFile.{TaskFile}
-use Rattle.ata_taskfile.specs.declared.registers.TheConstants.{HOB, SRST, NIEN, DEV, IDNF, ABRT}
+use Rattle.ata_taskfile.specs.declared.registers.TheConstants.{STATUS_BUSY, STATUS_BLOCK, STATUS_FAILED, STATUS_IDLE, HOB, SRST, NIEN, CONTROL_BITS, DEV, ADDRESS_BITS, IDNF, ABRT}
 
 -- a bit of a byte is 1
 abbrev pub has_bit : ℕ → ℕ → Bool
@@ -35,13 +35,13 @@ selects_absent f = has_bit DEV f.device
 abbrev pub line : TaskFile → Bool
 line f = f.pending && not (masks_line f)
 
--- the byte of Status in a phase: 80h busy, 58h data waits, 51h failed, 50h ready (own)
+-- the byte of Status in a phase; for Idle also by the failed mark (own)
 abbrev pub status_in : Phase → Bool → ℕ
-status_in Reset failed = 128
-status_in (Busy taken done) failed = 128
-status_in (Ready taken done left) failed = 88
-status_in Idle true = 81
-status_in Idle false = 80
+status_in Reset failed = STATUS_BUSY
+status_in (Busy taken done) failed = STATUS_BUSY
+status_in (Ready taken done left) failed = STATUS_BLOCK
+status_in Idle true = STATUS_FAILED
+status_in Idle false = STATUS_IDLE
 
 -- what Status and Alternate Status show; 00h for the device that isn't there (own)
 abbrev pub status : TaskFile → ℕ
@@ -133,12 +133,12 @@ in_reset Idle f = record f { phase = Reset; pending = false }
 in_reset (Busy taken done) f = record f { phase = Reset; pending = false }
 in_reset (Ready taken done left) f = record f { phase = Reset; pending = false }
 
--- after a Device Control write: HOB, SRST and nIEN, which are 86h, are kept, and SRST at 1 begins a reset
+-- after a Device Control write: HOB, SRST and nIEN are kept, and SRST at 1 begins a reset
 -- (ATA/ATAPI-6, Device Control register)
 abbrev pub controlled : ℕ → TaskFile → TaskFile
 controlled v f = if has_bit SRST v
-    then in_reset f.phase (record f { control = bit_and v 134 })
-    else record f { control = bit_and v 134 }
+    then in_reset f.phase (record f { control = bit_and v CONTROL_BITS })
+    else record f { control = bit_and v CONTROL_BITS }
 
 -- after a write that is taken; Command keeps the byte, and Error, the failed mark and the interrupt go
 abbrev pub stored : Reg → ℕ → TaskFile → TaskFile
@@ -241,7 +241,7 @@ addressed false sector f = record f {
   low = byte_at 0 sector ∷ slice_index f.low 1 ∷ [];
   mid = byte_at 1 sector ∷ slice_index f.mid 1 ∷ [];
   high = byte_at 2 sector ∷ slice_index f.high 1 ∷ [];
-  device = bit_or (bit_and f.device 240) (bit_and (byte_at 3 sector) 15);
+  device = bit_or (bit_and f.device 240) (bit_and (byte_at 3 sector) ADDRESS_BITS);
 }
 addressed true sector f = record f {
   low = byte_at 0 sector ∷ byte_at 3 sector ∷ [];

@@ -3,7 +3,10 @@
 ghost use Rattle.std.specs.Prelude.{◌≡◌, false};
 ghost use Rattle.ata_taskfile.specs.TaskFile.{line, value, after_read, after_write, wrote, power_on, is_of_bus, reset_ended, refused, announced, ended_failed, addressed, shows_previous, holds_reset, masks_line, selects_absent, status, shown, is_at_work, is_ignored, stored_as, controlled, in_reset, control_wrote, takes_no_command};
 
-use crate::registers::{ABRT, BSY, DEV, DRDY, DRQ, DSC, ERR, HOB, IDNF, NIEN, SRST, has_bit};
+use crate::registers::{
+    ABRT, ADDRESS_BITS, CONTROL_BITS, DEV, HOB, IDNF, NIEN, SRST, STATUS_BLOCK, STATUS_BUSY,
+    STATUS_FAILED, STATUS_IDLE, has_bit,
+};
 use crate::{Phase, Refused, Reg, Wrote};
 
 /// The registers of a device, the marks that no register shows, and the phase of the command in hand.
@@ -102,10 +105,10 @@ impl TaskFile {
             return 0;
         }
         match self.phase {
-            Phase::Reset | Phase::Busy(..) => BSY,
-            Phase::Ready(..) => DRDY | DSC | DRQ,
-            Phase::Idle if self.failed => DRDY | DSC | ERR,
-            Phase::Idle => DRDY | DSC,
+            Phase::Reset | Phase::Busy(..) => STATUS_BUSY,
+            Phase::Ready(..) => STATUS_BLOCK,
+            Phase::Idle if self.failed => STATUS_FAILED,
+            Phase::Idle => STATUS_IDLE,
         }
     }
 
@@ -150,7 +153,7 @@ impl TaskFile {
         ensures wrote { result ≡ stored_as Reg.Alternate v self.old }
         ensures after { self.new ≡ controlled v self.old }
     {
-        self.control = v & (HOB | SRST | NIEN);
+        self.control = v & CONTROL_BITS;
         if has_bit(SRST, v) {
             self.begin_reset()
         } else {
@@ -235,7 +238,7 @@ impl TaskFile {
             self.low = [b0, self.low[1]];
             self.mid = [b1, self.mid[1]];
             self.high = [b2, self.high[1]];
-            self.device = (self.device & 0xf0) | (b3 & 0x0f);
+            self.device = (self.device & !ADDRESS_BITS) | (b3 & ADDRESS_BITS);
         }
     }
 
