@@ -9,7 +9,7 @@ pub record Sets : Type 0 where
   pub frozen : List Bool
   pub filled : List Bool
 
--- these three
+-- three sets of blocks, as those of a bitmap
 abbrev pub these_sets : List Bool → List Bool → List Bool → Sets
 these_sets stored frozen filled = record { stored = stored; frozen = frozen; filled = filled }
 
@@ -17,7 +17,7 @@ these_sets stored frozen filled = record { stored = stored; frozen = frozen; fil
 abbrev pub blocks_in : Sets → ℕ
 blocks_in s = length s.filled
 
--- how many sectors hold the bits of these blocks
+-- how many sectors hold the bits of a bitmap's blocks
 abbrev pub sectors_in : Sets → ℕ
 sectors_in s = sectors_for (blocks_in s)
 

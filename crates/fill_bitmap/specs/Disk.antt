@@ -13,7 +13,7 @@ abbrev pub sector_at : ℕ → List (List ℕ) → List ℕ
 sector_at s sectors = slice_index_or sectors s []
 
 -- a run's header: BMCFILL1, then its number, the image's sectors and a block's sectors with the high byte first, then
--- zeros (own)
+-- zeros, 484 of them (own)
 unfoldable pub header_of : Area → ℕ → List ℕ
 header_of area id =
     codes "BMCFILL1" ++ to_be_bytes w64 id ++ to_be_bytes w64 area.image
@@ -23,7 +23,7 @@ header_of area id =
 abbrev pub HasHeader : Area → ℕ → List (List ℕ) → Type 0
 HasHeader area id disk = sector_at (reserved_of area) disk ≡ header_of area id
 
--- the same as a test
+-- whether the first reserved sector of a disk is the run's header
 abbrev pub has_header : Area → ℕ → List (List ℕ) → Bool
 has_header area id disk = bytes_eq (sector_at (reserved_of area) disk) (header_of area id)
 

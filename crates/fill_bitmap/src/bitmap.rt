@@ -6,6 +6,7 @@ ghost use Rattle.fill_bitmap.specs.BlockSet.{IsWhole, has, with_sector, next_out
 ghost use Rattle.fill_bitmap.specs.Bitmap.{IsNested, blocks_in, sectors_in, empty_sets, with_filled, loaded, frozen_now, frozen_stored};
 
 use crate::block_set::BlockSet;
+use crate::lengths::SECTOR_BYTES;
 use std::alloc::{AllocError, Global};
 use std::marker::Model;
 
@@ -60,7 +61,7 @@ impl Bitmap {
     ///
     /// Bits past the last block are ignored.
     #[tactic(auto, using(crate::proofs::Nested::blocks_kept))]
-    pub fn load(&mut self, k: u32, sector: &[u8; 512])
+    pub fn load(&mut self, k: u32, sector: &[u8; SECTOR_BYTES])
         requires { k < sectors_in self.old }
         ensures loaded { self.new ≡ loaded k sector.now self.old }
         ensures count { blocks_in self.new ≡ blocks_in self.old }
@@ -150,7 +151,7 @@ impl Bitmap {
     ///
     /// Bits past the last block are 0.
     #[tactic(auto, using(crate::proofs::Bytes::bit_written))]
-    pub fn frozen_sector(&self, k: u32, into: &mut [u8; 512])
+    pub fn frozen_sector(&self, k: u32, into: &mut [u8; SECTOR_BYTES])
         requires { k < sectors_in self.now }
         ensures bytes { into.new ≡ sector_of k self.now.frozen }
         ensures bits { (b : ℕ) → sector_with_bit b ≡ k →
@@ -175,7 +176,7 @@ fn add_to_each(
     frozen: &mut BlockSet,
     filled: &mut BlockSet,
     k: u32,
-    sector: &[u8; 512],
+    sector: &[u8; SECTOR_BYTES],
 )
     ensures stored { stored.new ≡ with_sector k sector.now stored.old }
     ensures frozen { frozen.new ≡ with_sector k sector.now frozen.old }

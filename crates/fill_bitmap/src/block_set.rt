@@ -5,6 +5,7 @@ ghost use Rattle.fill_bitmap.specs.Bits.{has_bit, byte_from, sector_of};
 ghost use Rattle.fill_bitmap.specs.BlockSet.{IsWhole, has, empty_set, with_sector, first_outside, next_outside};
 
 use crate::area::BLOCKS_OF_SECTOR;
+use crate::lengths::SECTOR_BYTES;
 use std::alloc::{AllocError, Global};
 use std::marker::Model;
 
@@ -91,7 +92,7 @@ impl BlockSet {
     }
 
     // Adds the blocks whose bits are set in the bitmap's sector `k`.
-    pub(crate) fn add_sector(&mut self, k: u32, sector: &[u8; 512])
+    pub(crate) fn add_sector(&mut self, k: u32, sector: &[u8; SECTOR_BYTES])
         ensures added { self.new ≡ with_sector k sector.now self.old }
     {
         let first = k as usize * SECTOR_BITS;
@@ -102,7 +103,7 @@ impl BlockSet {
     }
 
     // Fills `into` with the bytes of the bitmap's sector `k`. Bits past the last block are 0.
-    pub(crate) fn put_sector(&self, k: u32, into: &mut [u8; 512])
+    pub(crate) fn put_sector(&self, k: u32, into: &mut [u8; SECTOR_BYTES])
         ensures bytes { into.new ≡ sector_of k self.now }
     {
         let first = k as usize * SECTOR_BITS;
@@ -113,7 +114,7 @@ impl BlockSet {
 }
 
 // Whether the sector of the bitmap that holds block `b` has its bit set.
-fn is_bit_set(sector: &[u8; 512], b: usize) -> bool
+fn is_bit_set(sector: &[u8; SECTOR_BYTES], b: usize) -> bool
     ensures answer { result ≡ has_bit sector.now b }
 {
     sector[b % SECTOR_BITS / 8] >> (b % 8) & 1 == 1

@@ -2,13 +2,14 @@
 
 ghost use Rattle.std.specs.Prelude.{◌≡◌, ◌++◌, ℕ, Bool, List, length, take, drop};
 ghost use Rattle.fill_bitmap.specs.declared.area.Area.{Area};
+ghost use Rattle.fill_bitmap.specs.declared.lengths.TheConstants.{SECTOR_BYTES};
 ghost use Rattle.fill_bitmap.specs.Area.{IsSuitable, blocks_of, bitmap_sectors_of, reserved_of};
 ghost use Rattle.fill_bitmap.specs.BlockSet.{empty_set};
 ghost use Rattle.fill_bitmap.specs.Disk.{header_of, HasHeader, stored_blocks, with_sectors, guest_view, HoldsSet, HaveLengths};
 
 /// A header is as long as a sector, whatever the area and the run.
 pub fn a_header_is_a_sector()
-    ensures { (area : Area) (id : ℕ) → length (header_of area id) ≡ 512 }
+    ensures { (area : Area) (id : ℕ) → length (header_of area id) ≡ SECTOR_BYTES }
 {}
 
 /// The stored blocks of a disk with the header and the sectors of a set of blocks are that set.

@@ -7,7 +7,10 @@ ghost use Rattle.fill_bitmap.specs.Lengths.{area_on, refusal_of};
 use crate::area::{Area, MOST_SECTORS};
 
 /// The bytes of a sector (own).
-pub const SECTOR_BYTES: u64 = 512;
+pub const SECTOR_BYTES: usize = 512;
+
+// A sector in bytes, as a divisor of lengths.
+const BYTES: u64 = SECTOR_BYTES as u64;
 
 /// Why an image and a disk can't be used: the first that holds is told (own).
 #[derive(Clone, Copy, Debug, PartialEq, Eq)]
@@ -30,15 +33,15 @@ pub fn area_of(image_bytes: u64, disk_bytes: u64, block: u32) -> Result<Area, Un
     ensures area { IfOk result (λ area. area ≡ area_on image_bytes disk_bytes block) }
     ensures suitable { IfOk result IsSuitable }
 {
-    if image_bytes % (SECTOR_BYTES * u64::from(block)) != 0 {
+    if image_bytes % (BYTES * u64::from(block)) != 0 {
         return Err(Unsuitable::ImageLength);
     }
-    if disk_bytes % SECTOR_BYTES != 0 {
+    if disk_bytes % BYTES != 0 {
         return Err(Unsuitable::DiskLength);
     }
     let area = Area {
-        sectors: disk_bytes / SECTOR_BYTES,
-        image: image_bytes / SECTOR_BYTES,
+        sectors: disk_bytes / BYTES,
+        image: image_bytes / BYTES,
         block,
     };
     if area.sectors < area.sectors_needed() {
