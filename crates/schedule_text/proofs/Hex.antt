@@ -1,39 +1,35 @@
 -- Hexadecimal: what two digits, and the text of many bytes, tell.
-use Rattle.std.proofs.Common.{ℕ, zero, suc, ◌≡◌, ◌≢◌, ◌<◌, ◌≤◌, ◌+◌, ◌*◌, ◌-◌, ◌/◌, ◌%◌, ◌^◌, ◌++◌, List, [], ◌∷◌, length, get_or, if◌then◌else◌, ap, ap₂, sym, ◌∙◌, refl, arith, subst, append-nil, append_assoc, length-append}
+use Rattle.std.proofs.Common.{ℕ, zero, suc, Bool, true, false, ◌&&◌, ◌≡◌, ◌≢◌, ◌<◌, ◌≤◌, ◌+◌, ◌*◌, ◌/◌, ◌%◌, ◌^◌, ◌++◌, List, [], ◌∷◌, length, get_or, take, ap, ap₂, sym, ◌∙◌, refl, arith, subst, append-nil, append_assoc}
 use Rattle.std.proofs.lemmas.Grind.{flat_map-append}
+use Rattle.std.proofs.lemmas.List.{take_more, take_more_set}
+use Rattle.std.proofs.Math.ListN.{set}
 use Rattle.std.specs.Prelude.{nat_lt}
 use Rattle.std.specs.Int.{w32, to_be_bytes, from_be_bytes}
 use Rattle.std.proofs.lemmas.Bool.Decides.{nat_tests}
 use Rattle.std.proofs.lemmas.Nat.{be_bytes_4, from_be_bytes-to_be_bytes_4}
-use Rattle.schedule_text.specs.Line.{hex_digit, hex_byte, hex_text, hex_long, AreBytes}
+use Rattle.schedule_text.specs.Line.{value_of, hex_digit, hex_byte, hex_text, hex_long, AreBytes}
 
 -- equal lists have equal numbers
 pub byte_at : {s t : List ℕ} (i : ℕ) → s ≡ t → get_or s i 0 ≡ get_or t i 0
 byte_at i e = ap (λ s. get_or s i 0) e
 
--- the value of a digit
-abbrev digit_value : ℕ → ℕ
-digit_value c = if nat_lt c 58 then c - 48 else c - 87
+-- a digit is that of its value
+digit_is : (c : ℕ) → value_of c < 16 → hex_digit (value_of c) ≡ c
+digit_is c low = grind (arith, nat_tests)
 
-digit_value-hex_digit : (v : ℕ) → v < 16 → digit_value (hex_digit v) ≡ v
-digit_value-hex_digit v low = grind (arith, nat_tests)
+value_of-hex_digit : (v : ℕ) → v < 16 → value_of (hex_digit v) ≡ v
+value_of-hex_digit v low = grind (arith, nat_tests)
 
 -- the value of a byte's two digits
 abbrev pub byte_value : ℕ → ℕ → ℕ
-byte_value high low = digit_value high * 16 + digit_value low
+byte_value high low = value_of high * 16 + value_of low
 
 pub byte_value-hex_byte : (v : ℕ) → v < 256 → byte_value (hex_digit (v / 16)) (hex_digit (v % 16)) ≡ v
 byte_value-hex_byte v small =
-    let high = digit_value-hex_digit (v / 16) (omega arith) in
-    let low = digit_value-hex_digit (v % 16) (omega arith) in
+    let high = value_of-hex_digit (v / 16) (omega arith) in
+    let low = value_of-hex_digit (v % 16) (omega arith) in
     let split : (v / 16) * 16 + v % 16 ≡ v = omega arith in
     ap₂ (λ (a b : ℕ). a * 16 + b) high low ∙ split
-
--- two digits tell one byte
-hex_byte_once : (v w : ℕ) → v < 256 → w < 256 → hex_digit (v / 16) ≡ hex_digit (w / 16)
-    → hex_digit (v % 16) ≡ hex_digit (w % 16) → v ≡ w
-hex_byte_once v w low high front back = sym (byte_value-hex_byte v low) ∙ ap₂ byte_value front back
-    ∙ byte_value-hex_byte w high
 
 -- the bytes of text
 abbrev pub told_bytes : List ℕ → List ℕ
@@ -55,34 +51,6 @@ pub length-hex_text : (bytes : List ℕ) → length (hex_text bytes) ≡ 2 * len
 length-hex_text [] = refl
 length-hex_text (b ∷ bytes) = let rest = length-hex_text bytes in omega arith
 
--- text has bytes where there are bytes
-pub no_text : (all text : List ℕ) → length text ≡ 0 → 1 ≤ length all → text ≢ hex_text all
-no_text all text nothing some is = omega (arith, ap length is, length-hex_text all)
-
-pub some_bytes : (xs text rest : List ℕ) → text ≡ hex_text xs ++ rest → length rest ≡ 0 → length text ≢ 0
-    → 1 ≤ length xs
-some_bytes [] text rest is nothing some = absurd (some (ap length is ∙ nothing))
-some_bytes (x ∷ xs) text rest is nothing some = omega arith
-
--- what follows the text of bytes within the text of more
-pub after_text : (xs bytes rest : List ℕ) → AreBytes xs → AreBytes bytes → hex_text xs ++ rest ≡ hex_text bytes
-    → (more : List ℕ) × AreBytes more × (bytes ≡ xs ++ more) × (rest ≡ hex_text more)
-after_text [] bytes rest here there e = (bytes, there, refl, e)
-after_text (x ∷ xs) [] rest here there e = absurd cc
-after_text (x ∷ xs) (b ∷ bytes) rest here there e =
-    let same = hex_byte_once x b here.0 there.0 (byte_at 0 e) (byte_at 1 e) in
-    let on = after_text xs bytes rest here.1 there.1 cc in
-    (on.0, on.1, ap₂ (λ (x : ℕ) (xs : List ℕ). x ∷ xs) (sym same) on.2, on.3)
-
-none : (xs all more : List ℕ) → all ≡ xs ++ more → length all ≤ length xs → more ≡ []
-none xs all [] is few = refl
-none xs all (b ∷ more) is few = absurd (omega (arith, ap length is, length-append xs (b ∷ more)))
-
-no_more : (more rest : List ℕ) → AreBytes more → rest ≢ [] → ((v : ℕ) (t : List ℕ) → v < 256 → rest ≢ hex_byte v ++ t)
-    → rest ≢ hex_text more
-no_more [] rest bytes some other e = some e
-no_more (b ∷ more) rest bytes some other e = other b (hex_text more) bytes.0 e
-
 -- one more byte
 AreBytes-push : (xs : List ℕ) (b : ℕ) → AreBytes xs → b < 256 → AreBytes (xs ++ b ∷ [])
 AreBytes-push [] b all small = (small, tt)
@@ -90,27 +58,6 @@ AreBytes-push (x ∷ xs) b all small = (all.0, AreBytes-push xs b all.1 small)
 
 pub more_bytes : (xs new : List ℕ) (b : ℕ) → AreBytes xs → b < 256 → new ≡ xs ++ b ∷ [] → AreBytes new
 more_bytes xs new b all small is = subst AreBytes (sym is) (AreBytes-push xs b all small)
-
-pub more_text : (xs new text rest after : List ℕ) (b : ℕ) → text ≡ hex_text xs ++ rest → rest ≡ hex_byte b ++ after
-    → new ≡ xs ++ b ∷ [] → text ≡ hex_text new ++ after
-more_text xs new text rest after b is goes more =
-    is ∙ ap (λ (z : List ℕ). hex_text xs ++ z) goes ∙ sym (append_assoc (hex_text xs) (hex_byte b) after)
-    ∙ ap (λ (z : List ℕ). z ++ after) (sym (flat_map-append hex_byte xs (b ∷ [])) ∙ ap hex_text (sym more))
-
--- text that goes on behind so many bytes has more
-pub too_many : (xs rest all : List ℕ) (most : ℕ) → AreBytes xs → AreBytes all → rest ≢ [] → length xs ≡ most
-    → length all ≤ most
-    → hex_text xs ++ rest ≢ hex_text all
-too_many xs rest all most here there some full few e =
-    let (more, bytes, is, goes) = after_text xs all rest here there e in
-    some (goes ∙ ap hex_text (none xs all more is (omega arith)))
-
--- text that goes on otherwise isn't that of bytes
-pub no_bytes : (xs rest all : List ℕ) → AreBytes xs → AreBytes all → rest ≢ []
-    → ((v : ℕ) (t : List ℕ) → v < 256 → rest ≢ hex_byte v ++ t) → hex_text xs ++ rest ≢ hex_text all
-no_bytes xs rest all here there some other e =
-    let (more, bytes, is, goes) = after_text xs all rest here there e in
-    no_more more rest bytes some other goes
 
 -- the number of 32 bits that text begins with
 abbrev pub told_long : List ℕ → ℕ
@@ -143,6 +90,85 @@ long_front a b c d v text r s t rest first second third fourth is one two three 
     one ∙ ap (λ (z : List ℕ). hex_byte a ++ z) (two ∙ ap (λ (z : List ℕ). hex_byte b ++ z)
     (three ∙ ap (λ (z : List ℕ). hex_byte c ++ z) four))
     ∙ ap (λ (z : List ℕ). z ++ rest) (sym (long_told a b c d v first second third fourth is))
+
+-- the first bytes, so many, are those of the text's first digits
+pub record IsFront (i : ℕ) (text bytes : List ℕ) : Type 0 where
+  pub all : AreBytes (take i bytes)
+  pub text_is : take (2 * i) text ≡ hex_text (take i bytes)
+
+-- two digits are those of the byte that their values make
+two_digits : (c d h l : ℕ) → h ≡ value_of c → l ≡ value_of d → h < 16 → l < 16
+    → hex_byte (h % 16 * 16 + l % 16) ≡ c ∷ d ∷ []
+two_digits c d h l is also high low =
+    let front : (h % 16 * 16 + l % 16) / 16 ≡ h = omega arith in
+    let back : (h % 16 * 16 + l % 16) % 16 ≡ l = omega arith in
+    rw (front, back, is, also) (ap₂ (λ (x y : ℕ). x ∷ y ∷ []) (digit_is c (rw (← is) high)) (digit_is d (rw (← also) low)))
+
+-- the next two digits
+two_more : (i : ℕ) (text : List ℕ) → 2 * i + 1 < length text
+    → take (2 * (i + 1)) text ≡ take (2 * i) text ++ get_or text (2 * i) 0 ∷ get_or text (2 * i + 1) 0 ∷ []
+two_more i text within =
+    let place : 2 * (i + 1) ≡ 2 * i + 1 + 1 = omega arith in
+    rw (place, take_more text (2 * i + 1) 0 within, take_more text (2 * i) 0 (omega arith))
+    (append_assoc (take (2 * i) text) (get_or text (2 * i) 0 ∷ []) (get_or text (2 * i + 1) 0 ∷ []))
+
+-- one byte more was put behind the first ones
+pub front_more : (i h l : ℕ) (text bytes : List ℕ) → length text ≡ 2 * length bytes → i < length bytes
+    → h ≡ value_of (get_or text (2 * i) 0) → l ≡ value_of (get_or text (2 * i + 1) 0) → h < 16 → l < 16
+    → IsFront i text bytes → IsFront (i + 1) text (set bytes i (h % 16 * 16 + l % 16))
+front_more i h l text bytes whole within is also high low front =
+    let pushed = take_more_set bytes i (h % 16 * 16 + l % 16) within in
+    record {
+      all = more_bytes (take i bytes) _ (h % 16 * 16 + l % 16) front.all (omega arith) pushed;
+      text_is = two_more i text (omega arith) ∙ rw (front.text_is, pushed)
+          (sym (flat_map-append hex_byte (take i bytes) ((h % 16 * 16 + l % 16) ∷ [])
+          ∙ ap (λ (z : List ℕ). hex_text (take i bytes) ++ z) (two_digits _ _ h l is also high low)));
+    }
+
+-- the digits of a byte have values
+digits_at : (i : ℕ) (all : List ℕ) → AreBytes all → i < length all
+    → (value_of (get_or (hex_text all) (2 * i) 0) < 16) × (value_of (get_or (hex_text all) (2 * i + 1) 0) < 16)
+digits_at i [] bytes within = absurd (omega arith)
+digits_at zero (b ∷ all) bytes within = (
+  rw (value_of-hex_digit (b / 16) (omega (arith, bytes.0))) (omega (arith, bytes.0)),
+  rw (value_of-hex_digit (b % 16) (omega arith)) (omega arith),
+)
+digits_at (suc i) (b ∷ all) bytes within =
+    let first : 2 * suc i ≡ suc (suc (2 * i)) = omega arith in
+    let second : 2 * suc i + 1 ≡ suc (suc (2 * i + 1)) = omega arith in
+    let rest = digits_at i all bytes.1 (omega arith) in (rw first rest.0, rw second rest.1)
+
+digits_told : (i h l : ℕ) (text all : List ℕ) → 2 * i + 1 < length text → h ≡ value_of (get_or text (2 * i) 0)
+    → l ≡ value_of (get_or text (2 * i + 1) 0) → AreBytes all → text ≡ hex_text all → (h < 16) × (l < 16)
+digits_told i h l text all within is also bytes e =
+    let there = digits_at i all bytes (omega (arith, ap length e, length-hex_text all)) in
+    (rw (is, e) there.0, rw (also, e) there.1)
+
+-- text that isn't that of bytes up to here, or has no digit here, is none
+never : (good : Bool) (h l : ℕ) (text all : List ℕ) → (good ≡ false → text ≢ hex_text all)
+    → (text ≡ hex_text all → (h < 16) × (l < 16)) → (good && nat_lt h 16) && nat_lt l 16 ≡ false
+    → text ≢ hex_text all
+never false h l text all before here bad e = before refl e
+never true h l text all before here bad e = let low = here e in absurd (grind (arith, nat_tests))
+
+pub never_more : (good : Bool) (i h l : ℕ) (text : List ℕ)
+    → (good ≡ false → (all : List ℕ) → AreBytes all → text ≢ hex_text all) → 2 * i + 1 < length text
+    → h ≡ value_of (get_or text (2 * i) 0) → l ≡ value_of (get_or text (2 * i + 1) 0)
+    → (good && nat_lt h 16) && nat_lt l 16 ≡ false → (all : List ℕ) → AreBytes all → text ≢ hex_text all
+never_more good i h l text before within is also bad all bytes = never good h l text all (λ no. before no all bytes)
+    (digits_told i h l text all within is also bytes) bad
+
+-- what three tests say together
+pub all_three : (good : Bool) (h l : ℕ) → (good && nat_lt h 16) && nat_lt l 16 ≡ true
+    → (good ≡ true) × (h < 16) × (l < 16)
+all_three true h l e = (refl, grind (arith, nat_tests), grind (arith, nat_tests))
+all_three false h l e = absurd cc
+
+-- the text of one byte or more, and so many at most, is twice as long
+pub sized : (most : ℕ) (text all : List ℕ) → (1 ≤ length all) → (length all ≤ most) → text ≡ hex_text all
+    → (length text ≢ 0) × (length text % 2 ≡ 0) × (length text / 2 ≤ most)
+sized most text all some few is =
+    let twice = ap length is ∙ length-hex_text all in (omega arith, omega arith, omega arith)
 
 -- how long text is
 pub ruleset lengths = (length-hex_text)

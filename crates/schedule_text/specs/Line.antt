@@ -1,5 +1,5 @@
 -- The grammar of one line of a schedule: by the text of each event.
-use Rattle.std.specs.Prelude.{ℕ, ◌≡◌, ◌<◌, ◌≤◌, ◌+◌, ◌/◌, ◌%◌, ◌^◌, ◌++◌, ◌⊎◌, List, [], ◌∷◌, length, codes, decimal, nat_lt, if◌then◌else◌, Result, Ok, Err, MatchResult}
+use Rattle.std.specs.Prelude.{ℕ, ◌≡◌, ◌<◌, ◌≤◌, ◌+◌, ◌-◌, ◌&&◌, nat_le, ◌/◌, ◌%◌, ◌^◌, ◌++◌, ◌⊎◌, List, [], ◌∷◌, length, codes, decimal, nat_lt, if◌then◌else◌, Result, Ok, Err, MatchResult}
 use Rattle.std.specs.List.{AllByRecursion, flat_map}
 use Rattle.std.specs.Int.{w32, to_be_bytes}
 use Rattle.std.specs.Str.Parse.{digits_value}
@@ -29,6 +29,12 @@ register_text reg.BusStatus = codes "bs"
 -- a hexadecimal digit in lower case
 abbrev pub hex_digit : ℕ → ℕ
 hex_digit n = if nat_lt n 10 then 48 + n else 87 + n
+
+-- the value of a hexadecimal digit in lower case; 255 where it is none (own)
+abbrev pub value_of : ℕ → ℕ
+value_of c = if nat_le 48 c && nat_le c 57 then c - 48
+    else if nat_le 97 c && nat_le c 102 then c - 87
+    else 255
 
 -- a byte in two hexadecimal digits
 abbrev pub hex_byte : ℕ → List ℕ

@@ -1,9 +1,10 @@
 //! The parts of a schedule's line: names of registers, hexadecimal and decimal numbers.
 
-ghost use Rattle.std.specs.Prelude.{◌≡◌, ◌≢◌, ◌<◌, ◌^◌, ◌++◌, ◌∷◌, [], ℕ, List, IfSome, MatchOption};
+ghost use Rattle.std.specs.Prelude.{◌≡◌, ◌≢◌, ◌<◌, ◌*◌, ◌^◌, ◌++◌, ◌∷◌, [], ℕ, List, length, IfSome, MatchOption};
+ghost use Rattle.std.specs.Bool.{OnTrue, OnFalse};
 ghost use Rattle.ata_taskfile.specs.declared.Reg.{Reg as RegOf};
 ghost use Rattle.schedule_text.specs.Line.{register_text, hex_digit, hex_byte, hex_text, hex_long};
-ghost use Rattle.schedule_text.specs.Line.{AreSomeBytes, ReadsNumber};
+ghost use Rattle.schedule_text.specs.Line.{value_of, AreBytes, AreSomeBytes, ReadsNumber};
 
 use crate::LineFault;
 use aoe_frame::Bytes;
@@ -46,18 +47,35 @@ pub(crate) fn bytes<const N: usize>(text: &[u8]) -> Option<Bytes<N>>
         ((all : List ℕ) → AreSomeBytes N all → text.now ≢ hex_text all)
         (λ all. AreSomeBytes N all × (text.now ≡ hex_text all)) }
 {
-    if text.is_empty() {
+    let count = text.len() / 2;
+    if text.is_empty() || text.len() % 2 != 0 || count > N {
+        return None;
+    }
+    let mut room = [0; N];
+    if !put_bytes(text, &mut room[..count]) {
         return None;
     }
     let mut bytes = Bytes::new();
-    let mut rest = text;
-    while let Some((byte, after)) = byte_and_rest(rest) {
-        if !bytes.push(byte) {
-            return None;
-        }
-        rest = after;
+    bytes.append(&room[..count]);
+    Some(bytes)
+}
+
+// The bytes of a text of two digits each, in place of what `bytes` holds; whether the text has such digits alone.
+fn put_bytes(text: &[u8], bytes: &mut [u8]) -> bool
+    requires { length text.now ≡ 2 * length bytes.old }
+    ensures good { OnTrue result (AreBytes bytes.new × (text.now ≡ hex_text bytes.new)) }
+    ensures bad { OnFalse result
+        ((all : List ℕ) → AreBytes all → text.now ≢ hex_text all) }
+    ensures len { length bytes.new ≡ length bytes.old }
+{
+    let mut good = true;
+    for i in 0..bytes.len() {
+        let high = digit_value(text[2 * i]);
+        let low = digit_value(text[2 * i + 1]);
+        good = good & (high < 16) & (low < 16);
+        bytes[i] = high % 16 * 16 + low % 16;
     }
-    if rest.is_empty() { Some(bytes) } else { None }
+    good
 }
 
 // A number of eight digits.
@@ -118,10 +136,18 @@ fn digit(c: u8) -> Option<u8>
     ensures found { IfSome result (λ v. (v < 16) × (c ≡ hex_digit v)) }
     ensures all { (v : ℕ) → v < 16 → c ≡ hex_digit v → result ≡ Some v }
 {
+    let value = digit_value(c);
+    if value < 16 { Some(value) } else { None }
+}
+
+// The value of a digit; 255 where it is none. A table of it would be slower where there are many.
+fn digit_value(c: u8) -> u8
+    ensures { result ≡ value_of c }
+{
     match c {
-        b'0'..=b'9' => Some(c - b'0'),
-        b'a'..=b'f' => Some(c - b'a' + 10),
-        _ => None,
+        b'0'..=b'9' => c - b'0',
+        b'a'..=b'f' => c - b'a' + 10,
+        _ => 255,
     }
 }
 

@@ -80,8 +80,21 @@ fn push_hex(bytes: &[u8], into: &mut ArrayVec<u8, 4096>)
     ensures text { into.new.items ≡ into.old.items ++ hex_text bytes.now }
     ensures len { length into.new.items ≡ length into.old.items + 2 * length bytes.now }
 {
-    for &byte in bytes {
-        push_hex_byte(byte, into);
+    let start = into.len();
+    // Room for two digits a byte, which are then written over what is put there.
+    into.try_extend_from_slice(bytes).unwrap();
+    into.try_extend_from_slice(bytes).unwrap();
+    put_hex(bytes, &mut into.as_mut_slice()[start..]);
+}
+
+// Two digits for each byte, in place of what `text` holds.
+fn put_hex(bytes: &[u8], text: &mut [u8])
+    requires { length text.old ≡ 2 * length bytes.now }
+    ensures { text.new ≡ hex_text bytes.now }
+{
+    for i in 0..bytes.len() {
+        text[2 * i] = hex_of(bytes[i] / 16);
+        text[2 * i + 1] = hex_of(bytes[i] % 16);
     }
 }
 
