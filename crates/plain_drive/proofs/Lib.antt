@@ -10,3 +10,5 @@ pub mod CellEnds
 pub mod Shared
 pub mod Standing
 pub mod Runs
+pub mod EndsOfEnds
+pub mod Seen

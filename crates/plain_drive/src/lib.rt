@@ -5,10 +5,13 @@
 //! `specs/Change.antt` for what they do to the sectors, and `specs/Cut.antt` for what a power cut may leave. Each
 //! access is a definition of `ata_taskfile`; `specs/Words.antt` has many words through Data, and `specs/Identify.antt`
 //! those of IDENTIFY DEVICE. `specs/Physical.antt` has a drive that keeps its sectors behind a write cache, and
-//! `specs/Runs.antt` its whole runs. The functions below are laws that show what the definitions mean, in that order;
-//! `docs/drive.md` has the same as tables.
+//! `specs/Runs.antt` its whole runs. `specs/Seen.antt` has the steps, destages and power cuts of such a drive as they
+//! are seen without its cache, and the laws in `caching` show that a physical drive makes exactly these. The functions
+//! below are laws that show what the other definitions mean, in that order; `docs/drive.md` has the same as tables.
 
 #![tactic(auto)]
+
+mod caching;
 
 ghost use Rattle.std.specs.Prelude.{◌≡◌, ◌≢◌, ◌↔◌, ◌<◌, ℕ, List, [], map, length, slice_index_or, false};
 ghost use Rattle.ata_taskfile.specs.declared.Access.{Access};
@@ -24,6 +27,8 @@ ghost use Rattle.plain_drive.specs.Identify.{identity};
 ghost use Rattle.plain_drive.specs.Step.{step_made, bad_step, acts};
 ghost use Rattle.plain_drive.specs.Physical.{Physical, StandsFor, fresh, physical_at_power_on, physical_accessed, physical_step, physical_destaged, physical_cut};
 ghost use Rattle.plain_drive.specs.Runs.{Happening, HasPlainRun};
+
+pub use caching::{a_physical_drive_is_seen, ends_of_cells_are_kept};
 
 /// A value that is written is the current one of its sector, and the other sectors keep all of theirs.
 pub fn a_written_value_is_current()
