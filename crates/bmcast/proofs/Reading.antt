@@ -1,14 +1,14 @@
 -- A line of the schedule that is taken byte by byte.
-use Rattle.std.proofs.Common.{◌≡◌, ◌≢◌, ◌++◌, ℕ, List, [], ◌∷◌, Some, append_assoc, ◌∙◌, ap, sym}
+use Rattle.std.proofs.Common.{◌≡◌, ◌≢◌, ◌++◌, ℕ, List, [], ◌∷◌, Some, drop, append_assoc, ◌∙◌, ap, sym}
 use Rattle.bm_host.specs.Outside.{Outside, IfTold, SameCounts}
 use Rattle.bm_host.proofs.OutsideLaws.{same_counts_trans}
 use Rattle.bm_host.specs.declared.Role.TheVariants.{Schedule}
 use Rattle.schedule_text.specs.Schedule.{IsOneLine}
-use Rattle.schedule_text.proofs.Lines.{IsOneLine-push}
+use Rattle.schedule_text.proofs.Lines.{IsOneLine-push, IsOneLine-more}
 use Rattle.bmcast.specs.declared.streams.Streams.{Streams}
-use Rattle.bmcast.proofs.Told.{IfTold-both, IfTold-same}
+use Rattle.bmcast.proofs.Told.{IfTold-weaker, IfTold-both, IfTold-same}
 use Rattle.bmcast.specs.Kept.{KeepsFiles}
-use Rattle.bmcast.specs.Streams.{unread, Takes, KeepsSaid}
+use Rattle.bmcast.specs.Streams.{unread, Takes, TakesBytes, KeepsSaid}
 
 -- these bytes were taken, the front of a line, and nothing else happened
 pub record TakesFront (from to : Streams) (old new : Outside) (front : List ℕ) : Type 0 where
@@ -33,4 +33,17 @@ TakesFront-push from mid to old now new front byte so counts files said taken di
       so.bytes
       (IfTold-same _ (so.files Schedule (λ e. cc)) taken);
   one = IsOneLine-push front byte so.one differs;
+}
+
+-- bytes of the block more were taken
+pub TakesFront-more : (from mid to : Streams) (old now : Outside) (line longer : List ℕ) → TakesFront from mid old now line
+    → TakesBytes mid to line longer → TakesFront from to old now longer
+TakesFront-more from mid to old now line longer so more = record {
+  counts = so.counts;
+  files = so.files;
+  said = λ text was. rw more.pending (so.said text was);
+  bytes = IfTold-weaker (old.told Schedule) _ _
+      (λ text was. was ∙ ap (λ (rest : List ℕ). line ++ (rest ++ drop (now.given Schedule) text)) more.left_is
+      ∙ rw more.line_is (simp append_assoc)) so.bytes;
+  one = rw more.line_is (IsOneLine-more line more.front so.one more.one);
 }

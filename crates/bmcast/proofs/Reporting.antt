@@ -1,5 +1,5 @@
 -- The report's lines for one event, appended one by one.
-use Rattle.std.proofs.Common.{◌≡◌, ◌++◌, ◌+◌, ◌<◌, ℕ, List, [], ◌∷◌, length, take, get_or, append_assoc, ◌∙◌, ap, sym, subst}
+use Rattle.std.proofs.Common.{◌≡◌, ◌++◌, ◌+◌, ◌<◌, ℕ, List, length, take, get_or, append_assoc, ◌∙◌, ap, sym, subst}
 use Rattle.std.proofs.lemmas.List.{take_more}
 use Rattle.bm_host.specs.Outside.{Outside, SameCounts}
 use Rattle.bm_host.proofs.OutsideLaws.{same_counts_trans}

@@ -9,9 +9,13 @@ use Rattle.bmcast.specs.declared.streams.Streams.{Streams}
 use Rattle.bmcast.specs.declared.streams.Fetched.{Fetched}
 use Rattle.bmcast.specs.declared.streams.Fetched.TheVariants as fetched
 
+-- the bytes of the block that aren't taken yet
+abbrev pub in_block : Streams → List ℕ
+in_block s = drop s.at (take s.end s.block)
+
 -- the bytes of a schedule's text that aren't taken yet: those of the block, and those that the host still has
 abbrev pub unread : Streams → Outside → List ℕ → List ℕ
-unread s outside text = drop s.at (take s.end s.block) ++ drop (outside.given Schedule) text
+unread s outside text = in_block s ++ drop (outside.given Schedule) text
 
 -- the report's lines so far, written or waiting, are this text
 abbrev pub Said : Streams → Outside → List ℕ → Type 0
@@ -37,6 +41,15 @@ Reports from to old new lines = Appends from to old new lines × KeepsUnread fro
 abbrev pub Takes : Option ℕ → List ℕ → List ℕ → Type 0
 Takes None old new = (old ≡ []) × (new ≡ [])
 Takes (Some byte) old new = old ≡ byte ∷ new
+
+-- bytes of the block were taken behind those of a line, none of them a line feed, and what waits to
+-- be written stays
+pub record TakesBytes (from to : Streams) (line longer : List ℕ) : Type 0 where
+  pub front : List ℕ
+  pub one : IsOneLine front
+  pub line_is : longer ≡ line ++ front
+  pub left_is : in_block from ≡ front ++ in_block to
+  pub pending : to.pending ≡ from.pending
 
 -- a line was taken: what stood there, up to its line feed (10) or the end
 abbrev pub Fetches : Fetched → List ℕ → List ℕ → List ℕ → Type 0

@@ -1,12 +1,15 @@
 //! The schedule as it is read in blocks, and the report as it is written in blocks.
 
-ghost use Rattle.std.specs.Prelude.{◌≡◌, ◌≤◌, ◌<◌, ◌+◌, [], length, IfErr, IfOk, OnOk};
+ghost use Rattle.std.specs.Prelude.{◌≡◌, ◌≤◌, ◌<◌, ◌+◌, [], length, take, IfErr, IfOk, OnOk};
+ghost use Rattle.schedule_text.specs.Schedule.{IsOneLine};
 
 use crate::stop::Stop;
 use crate::waiting::{make_room, write_waiting};
 use arrayvec::ArrayVec;
 use bm_host::{Host, Role};
+use memchr::memchr;
 use schedule_text::{Emitted, Item, LINE_BYTES, write_end, write_item};
+use std::cmp::min;
 
 /// The bytes of the schedule that are read in one call.
 pub const BLOCK: usize = 4096;
@@ -42,7 +45,7 @@ impl Streams {
     ghost use Rattle.plain_run.specs.Entry.{items_text};
     ghost use Rattle.bmcast.specs.Stop.{Ended, IsFault};
     ghost use Rattle.bmcast.specs.Kept.{KeepsFiles};
-    ghost use Rattle.bmcast.specs.Streams.{unread, Takes, Fetches, KeepsSaid, Reports};
+    ghost use Rattle.bmcast.specs.Streams.{unread, Takes, TakesBytes, Fetches, KeepsSaid, Reports};
 
     /// Nothing read and nothing to write.
     pub fn new() -> Streams
@@ -153,11 +156,9 @@ impl Streams {
             return Ok(());
         }
         self.flush(host)?;
-        let mut block = [0; BLOCK];
-        let Ok(end) = host.read_next(Role::Schedule, &mut block) else {
+        let Ok(end) = host.read_next(Role::Schedule, &mut self.block) else {
             return Err(Stop::ReadFault(Role::Schedule));
         };
-        self.block = block;
         self.at = 0;
         self.end = end;
         Ok(())
@@ -184,6 +185,16 @@ impl Streams {
         Ok(Some(byte))
     }
 
+    // Takes the bytes of the block before its first line feed, as many as the line has room for.
+    fn take_front(&mut self, line: &mut Line)
+        ensures { TakesBytes self.old self.new line.old.items line.new.items }
+    {
+        let left = &self.block[self.at..self.end];
+        let count = before_line_feed(left, line.remaining_capacity());
+        line.try_extend_from_slice(&left[..count]).unwrap();
+        self.at += count;
+    }
+
     /// Takes the next line of the schedule into `line`, without its line feed.
     pub fn next_line<H: Host>(&mut self, host: &mut H, line: &mut Line) -> Result<Fetched, Stop>
         ensures counts { Ended result (H.outside host.old) (H.outside host.new) }
@@ -197,6 +208,7 @@ impl Streams {
     {
         line.clear();
         loop {
+            self.take_front(line);
             let Some(byte) = self.next_byte(host)? else {
                 return Ok(Fetched::at_end(line));
             };
@@ -208,6 +220,19 @@ impl Streams {
             }
             line.push(byte);
         }
+    }
+}
+
+// How many bytes stand before the first line feed, or all of them where there is none; so many at most.
+fn before_line_feed(bytes: &[u8], most: usize) -> usize
+    ensures within { result ≤ length bytes.now }
+    ensures most { result ≤ most }
+    ensures one { IsOneLine (take result bytes.now) }
+{
+    let front = &bytes[..min(bytes.len(), most)];
+    match memchr(b'\n', front) {
+        Some(place) => place,
+        None => front.len(),
     }
 }
 

@@ -13,6 +13,11 @@ pub IsOneLine-push : (line : List ℕ) (byte : ℕ) → IsOneLine line → byte 
 IsOneLine-push [] byte one differs = (differs, tt)
 IsOneLine-push (c ∷ line) byte one differs = (one.0, IsOneLine-push line byte one.1 differs)
 
+-- a line with more bytes that have no line feed
+pub IsOneLine-more : (line more : List ℕ) → IsOneLine line → IsOneLine more → IsOneLine (line ++ more)
+IsOneLine-more [] more one other = other
+IsOneLine-more (c ∷ line) more one other = (one.0, IsOneLine-more line more one.1 other)
+
 -- the first line, up to its line feed
 pub first_line-line : (line rest : List ℕ) → IsOneLine line → first_line (line ++ 10 ∷ rest) ≡ line
 first_line-line [] rest one = refl
