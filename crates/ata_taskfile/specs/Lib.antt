@@ -4,4 +4,5 @@ pub mod Order
 pub mod Data
 pub mod Device
 pub mod Access
+pub mod Accesses
 pub mod Lawful

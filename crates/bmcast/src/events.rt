@@ -7,8 +7,8 @@ ghost use Rattle.plain_drive.specs.Plain.{words_of};
 ghost use Rattle.plain_drive.specs.Physical.{seen};
 ghost use Rattle.plain_drive.specs.Words.{words_read, after_words, after_written, bytes_of};
 ghost use Rattle.schedule_text.specs.Line.{IsInRange};
-ghost use Rattle.plain_run.specs.Entry.{answers_in, commands_in, entry_of, plan_in};
-ghost use Rattle.plain_run.specs.Event.{answer_to, memory_read, memory_written};
+ghost use Rattle.plain_run.specs.Entry.{answer_bytes, answer_items, entry_of};
+ghost use Rattle.plain_run.specs.Guest.{answer_due, memory_read, memory_written};
 ghost use Rattle.plain_run.specs.Run.{DriveEvent, physical_event, plan_due, step_item};
 ghost use Rattle.plain_run.specs.Taken.{just_taken, command_item};
 ghost use Rattle.bmcast.specs.Machine.{device, physical, with_device, with_memory};
@@ -32,18 +32,18 @@ pub fn apply(machine: &mut Machine, event: &Event, out: &mut Emitted)
     }
 }
 
-// The event's access, step, destage or cut, with its answer or plan item.
+// The event's accesses, step, destage or cut, with its answer or plan item.
+#[tactic(auto, using(crate::proofs::EventLaws::event_rows))]
 fn act(machine: &mut Machine, event: &Event, out: &mut Emitted)
     requires in_range { IsInRange event.now }
     requires items { out.old.items.items ≡ [] }
     requires bytes { out.old.bytes.items ≡ [] }
     ensures after { physical machine.new ≡ physical_event event.now (physical machine.old) }
-    ensures answered { answers_in out.new.items.items out.new.bytes.items
-        ≡ answer_to event.now (seen (physical machine.old)) }
-    ensures planned { plan_in out.new.items.items
-        ≡ plan_due event.now (seen (physical machine.old)) }
-    ensures commands { commands_in out.new.items.items ≡ [] }
-    ensures room { length out.new.items.items ≤ 1 }
+    ensures items { out.new.items.items
+        ≡ answer_items (answer_due event.now (seen (physical machine.old)))
+        ++ plan_due event.now (seen (physical machine.old)) }
+    ensures bytes { out.new.bytes.items
+        ≡ answer_bytes (answer_due event.now (seen (physical machine.old))) }
 {
     match event {
         Event::Read8(reg) => answer(out, &[machine.read8(*reg)]),
@@ -136,16 +136,13 @@ fn write_memory(machine: &mut Machine, address: u32, bytes: &[u8])
 }
 
 // A step that has an effect is told.
-#[tactic(auto, using(crate::proofs::EventLaws::step_items))]
 fn make_step(machine: &mut Machine, step: Step, out: &mut Emitted)
     requires items { out.old.items.items ≡ [] }
     ensures after { physical machine.new
         ≡ physical_event (Event.Drive step) (physical machine.old) }
-    ensures answered { answers_in out.new.items.items out.new.bytes.items ≡ [] }
-    ensures planned { plan_in out.new.items.items
+    ensures items { out.new.items.items
         ≡ plan_due (Event.Drive step) (seen (physical machine.old)) }
-    ensures commands { commands_in out.new.items.items ≡ [] }
-    ensures room { length out.new.items.items ≤ 1 }
+    ensures bytes { out.new.bytes ≡ out.old.bytes }
 {
     // A store in memory has no fault.
     let stepped = machine.drive.step(step, &mut machine.memory).unwrap();

@@ -9,6 +9,6 @@ pub mod KeepsLawful
 pub mod CellEnds
 pub mod Shared
 pub mod Standing
-pub mod Runs
 pub mod EndsOfEnds
 pub mod Seen
+pub mod Accesses

@@ -5,6 +5,5 @@ pub mod Change
 pub mod Step
 pub mod Cut
 pub mod Physical
-pub mod Runs
 pub mod Laws
 pub mod Seen

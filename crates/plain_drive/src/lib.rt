@@ -4,8 +4,8 @@
 //! `specs/Plain.antt` for its state, then `specs/Step.antt` for what a good and a bad step do,
 //! `specs/Change.antt` for what they do to the sectors, and `specs/Cut.antt` for what a power cut may leave. Each
 //! access is a definition of `ata_taskfile`; `specs/Words.antt` has many words through Data, and `specs/Identify.antt`
-//! those of IDENTIFY DEVICE. `specs/Physical.antt` has a drive that keeps its sectors behind a write cache, and
-//! `specs/Runs.antt` its whole runs. `specs/Seen.antt` has the steps, destages and power cuts of such a drive as they
+//! those of IDENTIFY DEVICE. `specs/Physical.antt` has a drive that keeps its sectors behind a write cache; its whole
+//! runs are those of `plain_run`. `specs/Seen.antt` has the steps, destages and power cuts of such a drive as they
 //! are seen without its cache, and the laws in `caching` show that a physical drive makes exactly these. The functions
 //! below are laws that show what the other definitions mean, in that order; `docs/drive.md` has the same as tables.
 
@@ -13,20 +13,22 @@
 
 mod caching;
 
-ghost use Rattle.std.specs.Prelude.{◌≡◌, ◌≢◌, ◌↔◌, ◌<◌, ℕ, List, [], map, length, slice_index_or, false};
+ghost use Rattle.std.specs.Prelude.{◌≡◌, ◌≢◌, ◌↔◌, ◌<◌, ℕ, List, [], map, replicate, length, slice_index_or, false};
 ghost use Rattle.ata_taskfile.specs.declared.Access.{Access};
+ghost use Rattle.ata_taskfile.specs.declared.Access.TheVariants.{ReadWord, WriteWord};
+ghost use Rattle.ata_taskfile.specs.declared.Answer.TheVariants.{Word};
 ghost use Rattle.ata_taskfile.specs.declared.Step.{Step as StepOf};
 ghost use Rattle.ata_taskfile.specs.Access.{accessed};
+ghost use Rattle.ata_taskfile.specs.Accesses.{all_accessed, all_answered};
 ghost use Rattle.ata_taskfile.specs.Device.{Cell, Device};
 ghost use Rattle.ata_taskfile.specs.Lawful.{IsLawful};
 ghost use Rattle.plain_drive.specs.Plain.{Plain, stored, settled, current, appended, all_flushed};
 ghost use Rattle.plain_drive.specs.Cut.{IsOutcome, drive_at_power_on};
 ghost use Rattle.plain_drive.specs.Laws.{IsLoaded, IsAwaited, IsWritten, HasWholeSectors};
-ghost use Rattle.plain_drive.specs.Words.{words_read, after_written};
+ghost use Rattle.plain_drive.specs.Words.{words_read, after_words, after_written};
 ghost use Rattle.plain_drive.specs.Identify.{identity};
 ghost use Rattle.plain_drive.specs.Step.{step_made, bad_step, acts};
 ghost use Rattle.plain_drive.specs.Physical.{Physical, StandsFor, fresh, physical_at_power_on, physical_accessed, physical_step, physical_destaged, physical_cut};
-ghost use Rattle.plain_drive.specs.Runs.{Happening, HasPlainRun};
 
 pub use caching::{a_physical_drive_is_seen, ends_of_cells_are_kept};
 
@@ -48,6 +50,16 @@ pub fn a_loaded_block_is_read()
 pub fn a_written_block_is_taken()
     ensures { (d : Device) (words : List ℕ) → (wanted : IsAwaited d) → length words ≡ 256
         → IsWritten (after_written words d) words wanted.order wanted.done }
+{}
+
+/// Many words through Data are as many accesses, one after the other.
+pub fn words_are_accesses()
+    ensures answered { (n : ℕ) (d : Device) → all_answered (replicate n ReadWord) d
+        ≡ map (λ w. Word w) (words_read n d) }
+    ensures read { (n : ℕ) (d : Device) → all_accessed (replicate n ReadWord) d
+        ≡ after_words n d }
+    ensures written { (words : List ℕ) (d : Device) →
+        all_accessed (map (λ w. WriteWord w) words) d ≡ after_written words d }
 {}
 
 /// IDENTIFY DEVICE gives a whole block.
@@ -125,12 +137,4 @@ pub fn a_cut_keeps_standing()
 pub fn durable_sectors_are_an_outcome()
     ensures { (physical : Physical) (p : Plain) → StandsFor physical p
         → IsOutcome p.device.cells physical.kept.durable }
-{}
-
-/// Whatever happens to a physical drive that stands for a plain one, the plain one has a run with the same
-/// answers that leads to one for which it stands then. After a cut that begins with the physical drive's durable
-/// sectors, which are a cut outcome. A destage is no part of that run.
-pub fn a_physical_drive_is_a_plain_one()
-    ensures { (happenings : List Happening) (physical : Physical) (p : Plain) → StandsFor physical p
-        → HasPlainRun happenings physical p }
 {}

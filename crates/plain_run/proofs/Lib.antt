@@ -1,5 +1,6 @@
 pub mod Entries
-pub mod Noted
+pub mod Guest
+pub mod Told
 pub mod Standing
 pub mod Kept
 pub mod Aims

@@ -4,7 +4,9 @@ use Rattle.std.specs.Prelude.{◌||◌, All}
 use Rattle.std.proofs.lemmas.Bool.{cases_lt, or_parts}
 use Rattle.std.proofs.lemmas.List.{get_or_past}
 use Rattle.std.proofs.lemmas.List.Elements.{All-from_get_or}
+use Rattle.ata_taskfile.specs.Device.{Device}
 use Rattle.plain_drive.specs.Plain.{words_of}
+use Rattle.plain_drive.proofs.Accesses.{words_accessed, written_accessed}
 use Rattle.plain_drive.specs.Physical.{Physical, seen, fresh, physical_at_power_on}
 use Rattle.schedule_text.specs.declared.Event.{Event}
 use Rattle.schedule_text.specs.declared.Event.TheVariants as event
@@ -15,6 +17,7 @@ use Rattle.plain_run.specs.Run.{DriveEvent, IsDriveRun, physical_event}
 use Rattle.plain_run.specs.Taken.{commands_due}
 use Rattle.plain_run.specs.Written.{items_name, names_write, is_named}
 use Rattle.plain_run.proofs.Aims.{aims_in, read8_away, step_away, words_away, write8_away, written_away}
+use Rattle.plain_run.proofs.Told.{commands_told}
 use Rattle.plain_run.proofs.Sectors.{run_length}
 use Rattle.plain_run.proofs.Sound.{IsSound, event_sound, fresh_sound}
 
@@ -44,8 +47,12 @@ event_away : (s : ℕ) (one : Event) (q : Physical) → aims_in s q.file.phase �
     → aims_in s (physical_event one q).file.phase ≡ false
 event_away s (event.Read8 r) q away unnamed = read8_away s r (seen q).device away
 event_away s (event.Write8 r v) q away unnamed = write8_away s r v (seen q).device away unnamed
-event_away s (event.ReadWords n) q away unnamed = words_away s n (seen q).device away
-event_away s (event.WriteWords bytes) q away unnamed = written_away s (words_of bytes) (seen q).device away
+event_away s (event.ReadWords n) q away unnamed =
+    subst (λ (d : Device). aims_in s d.file.phase ≡ false) (sym (words_accessed n (seen q).device))
+    (words_away s n (seen q).device away)
+event_away s (event.WriteWords bytes) q away unnamed =
+    subst (λ (d : Device). aims_in s d.file.phase ≡ false) (sym (written_accessed (words_of bytes) (seen q).device))
+    (written_away s (words_of bytes) (seen q).device away)
 event_away s (event.Drive st) q away unnamed = step_away s st (seen q) away
 event_away s event.Cut q away unnamed = refl
 event_away s one q away unnamed = away
@@ -65,6 +72,8 @@ module _ (s : ℕ) (value : List ℕ) where
       → IsUntouched q → IsUntouched (physical_event entry.event q)
   untouched_event entry q one unnamed was =
       let elsewhere : aims_in s q.file.phase ≡ true → ⊥ = λ aims. cc (was.away, aims) in
+      let new = physical_event entry.event q in
+      let commands = ap commands_in one.items ∙ commands_told entry.event q new in
       record {
         sound = event_sound Same (λ at found one. one.0) entry.event q
             (λ at found one. (
@@ -72,7 +81,7 @@ module _ (s : ℕ) (value : List ℕ) where
               λ same. absurd
                   (elsewhere (subst (λ i. aims_in i q.file.phase ≡ true) same one.1)),
             )) was.sound;
-        away = event_away s entry.event q was.away (ap (items_name s) (sym one.commands) ∙ commands_name s entry.items
+        away = event_away s entry.event q was.away (ap (items_name s) (sym commands) ∙ commands_name s entry.items
             ∙ unnamed);
       }
 

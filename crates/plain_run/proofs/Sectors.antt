@@ -1,7 +1,7 @@
 -- What a run of a physical drive does to its sectors.
-use Rattle.std.proofs.Common.{◌≡◌, ℕ, Bool, true, false, zero, suc, List, [], ◌∷◌, length, refl, ap, ◌∙◌}
+use Rattle.std.proofs.Common.{◌≡◌, ℕ, Bool, true, false, List, [], ◌∷◌, length, refl, ap, ◌∙◌}
 use Rattle.std.specs.Prelude.{if◌then◌else◌, ◌==◌, nat_lt}
-use Rattle.ata_taskfile.specs.declared.Access.TheVariants as access
+use Rattle.ata_taskfile.specs.declared.Access.{Access}
 use Rattle.ata_taskfile.specs.declared.Form.{Form}
 use Rattle.ata_taskfile.specs.declared.Form.TheVariants.{NoMove, PioIn, PioOut, DmaIn, DmaOut}
 use Rattle.ata_taskfile.specs.declared.Request.{Request}
@@ -13,29 +13,25 @@ use Rattle.ata_taskfile.specs.declared.Step.TheVariants as step
 use Rattle.ata_taskfile.specs.TaskFile.{holds_reset, reset_ended}
 use Rattle.ata_taskfile.specs.Bus.{walk_ended}
 use Rattle.ata_taskfile.specs.Data.{moves_by_bus}
-use Rattle.ata_taskfile.specs.Device.{Device, with_bus, after_read_word, after_write_word}
+use Rattle.ata_taskfile.specs.Access.{accessed}
+use Rattle.ata_taskfile.specs.Accesses.{all_accessed}
+use Rattle.ata_taskfile.specs.Device.{Device, with_bus}
 use Rattle.ata_taskfile.proofs.Cells.{accessed-sectors}
-use Rattle.plain_drive.specs.Plain.{Plain, with_registers, words_of}
-use Rattle.plain_drive.specs.Words.{after_words, after_written}
+use Rattle.plain_drive.specs.Plain.{Plain, with_registers}
 use Rattle.plain_drive.specs.Change.{change_made}
 use Rattle.plain_drive.specs.Step.{step_made, stepped, failed_step, proceeded, sector_given, transferred, walked, first_wanted, next_wanted, offered, ended, without_walk}
 use Rattle.plain_drive.specs.Physical.{Physical, seen}
 use Rattle.schedule_text.specs.declared.Event.{Event}
 use Rattle.schedule_text.specs.declared.Event.TheVariants as event
 use Rattle.plain_run.specs.Entry.{Entry}
+use Rattle.plain_run.specs.Guest.{accesses_of}
 use Rattle.plain_run.specs.Run.{IsDriveRun, physical_event}
 use Rattle.plain_run.proofs.Kept.{after_length, destaged_length}
 
 -- no access changes how many sectors the drive says it has
-words_sectors : (n : ℕ) (d : Device) → (after_words n d).sectors ≡ d.sectors
-unfolding after_words
-words_sectors zero d = refl
-words_sectors (suc n) d = words_sectors n (after_read_word d)
-
-written_sectors : (words : List ℕ) (d : Device) → (after_written words d).sectors ≡ d.sectors
-unfolding after_written
-written_sectors [] d = refl
-written_sectors (w ∷ words) d = written_sectors words (after_write_word w d)
+accesses_sectors : (accesses : List Access) (d : Device) → (all_accessed accesses d).sectors ≡ d.sectors
+accesses_sectors [] d = refl
+accesses_sectors (a ∷ accesses) d = accesses_sectors accesses (accessed a d) ∙ accessed-sectors a d
 
 -- nor does a step
 chosen_sectors : (b : Bool) (n : ℕ) (p q : Plain) → p.device.sectors ≡ n → q.device.sectors ≡ n
@@ -81,12 +77,11 @@ step_sectors step.Good p = stepped_sectors p.device.file.phase p
 step_sectors step.Bad p = failed_sectors p.device.file.phase p
 
 pub event_sectors : (one : Event) (q : Physical) → (physical_event one q).sectors ≡ q.sectors
-event_sectors (event.Read8 r) q = accessed-sectors (access.Read8 r) (seen q).device
-event_sectors (event.Write8 r v) q = accessed-sectors (access.Write8 r v) (seen q).device
-event_sectors (event.ReadWords n) q = words_sectors n (seen q).device
-event_sectors (event.WriteWords bytes) q = written_sectors (words_of bytes) (seen q).device
 event_sectors (event.Drive s) q = step_sectors s (seen q)
-event_sectors one q = refl
+event_sectors (event.Destage k) q = refl
+event_sectors event.Cut q = refl
+event_sectors (event.WriteMemory address bytes) q = refl
+event_sectors one q = accesses_sectors (accesses_of one) (seen q).device
 
 -- or how many it keeps
 pub event_length : (one : Event) (q : Physical) → length (physical_event one q).kept.durable ≡ length q.kept.durable

@@ -1,18 +1,19 @@
 -- What every event of a physical drive keeps of the values that the drive keeps.
-use Rattle.std.proofs.Common.{◌≡◌, ℕ, ◌<◌, zero, suc, List, [], ◌∷◌, length, get_or, refl, sym, ◌∙◌, arith}
+use Rattle.std.proofs.Common.{◌≡◌, ℕ, ◌<◌, List, [], ◌∷◌, length, get_or, refl, sym, ◌∙◌, subst, arith}
 use Rattle.std.proofs.lemmas.List.Elements.{All-nil}
-use Rattle.ata_taskfile.specs.declared.Access.TheVariants as access
-use Rattle.ata_taskfile.specs.Device.{Cell, Device, powered_on, after_read_word, after_write_word}
+use Rattle.ata_taskfile.specs.declared.Access.{Access}
+use Rattle.ata_taskfile.specs.Access.{accessed}
+use Rattle.ata_taskfile.specs.Accesses.{all_accessed}
+use Rattle.ata_taskfile.specs.Device.{Cell, Device, powered_on}
 use Rattle.ata_taskfile.specs.Lawful.{IsLawful}
 use Rattle.ata_taskfile.proofs.Lawfulness.{accessed-lawful}
-use Rattle.plain_drive.specs.Plain.{words_of}
-use Rattle.plain_drive.specs.Words.{after_words, after_written}
 use Rattle.plain_drive.specs.Laws.{HasWholeSectors}
 use Rattle.plain_drive.specs.Change.{Change, leaves, writes, flushes, change_made}
-use Rattle.plain_drive.specs.Physical.{Physical, seen, cells_of, kept_cut, fresh, physical_at_power_on}
+use Rattle.plain_drive.specs.Physical.{Physical, seen, keeping, cells_of, kept_cut, fresh, physical_at_power_on}
 use Rattle.plain_drive.proofs.KeepsLawful.{step_made-lawful}
 use Rattle.schedule_text.specs.declared.Event.{Event}
 use Rattle.schedule_text.specs.declared.Event.TheVariants as event
+use Rattle.plain_run.specs.Guest.{accesses_of, with_device}
 use Rattle.plain_run.specs.Run.{physical_event}
 use Rattle.plain_run.proofs.Kept.{Holds, Writes, after_holds, cut_holds, current_holds, destaged_holds}
 use Rattle.plain_run.proofs.Written.{IsAimed, step_aimed}
@@ -35,30 +36,27 @@ pub record IsSound (Q : ℕ → List ℕ → Type 0) (q : Physical) : Type 0 whe
 power_lawful : (cells : List Cell) (sectors : ℕ) → IsLawful (powered_on cells sectors)
 power_lawful cells sectors = grind arith
 
-words_lawful : (n : ℕ) (d : Device) → IsLawful d → IsLawful (after_words n d)
-unfolding after_words
-words_lawful zero d l = l
-words_lawful (suc n) d l = words_lawful n (after_read_word d) (accessed-lawful access.ReadWord d l)
-
-written_lawful : (words : List ℕ) (d : Device) → IsLawful d → IsLawful (after_written words d)
-unfolding after_written
-written_lawful [] d l = l
-written_lawful (w ∷ words) d l = written_lawful words (after_write_word w d) (accessed-lawful (access.WriteWord w) d l)
+-- and so is one after accesses
+accesses_lawful : (accesses : List Access) (d : Device) → IsLawful d → IsLawful (all_accessed accesses d)
+accesses_lawful [] d l = l
+accesses_lawful (a ∷ accesses) d l = accesses_lawful accesses (accessed a d) (accessed-lawful a d l)
 
 module _ (Q : ℕ → List ℕ → Type 0) (whole : (s : ℕ) (value : List ℕ) → Q s value → length value ≡ 512) where
   -- its sectors are whole
   sound_whole : (q : Physical) → IsSound Q q → HasWholeSectors (seen q).device
   sound_whole q sound s below = whole s _ (current_holds Q s q.kept (rw (← sound.count) below) sound.kept)
 
+  -- a guest's accesses keep the cells
+  seen_lawful : (d : Device) (q : Physical) → d.cells ≡ cells_of q.kept → IsLawful d
+      → IsLawful (seen (keeping q.kept (with_device d (seen q)))).device
+  seen_lawful d q same l = subst (λ cells. IsLawful (record d { cells = cells })) same l
+
   event_lawful : (one : Event) (q : Physical) → IsSound Q q → IsLawful (seen (physical_event one q)).device
-  event_lawful (event.Read8 r) q sound = accessed-lawful (access.Read8 r) (seen q).device sound.lawful
-  event_lawful (event.Write8 r v) q sound = accessed-lawful (access.Write8 r v) (seen q).device sound.lawful
-  event_lawful (event.ReadWords n) q sound = words_lawful n (seen q).device sound.lawful
-  event_lawful (event.WriteWords bytes) q sound = written_lawful (words_of bytes) (seen q).device sound.lawful
-  event_lawful (event.WritePointer v) q sound = accessed-lawful (access.WritePointer v) (seen q).device sound.lawful
   event_lawful (event.Drive s) q sound = step_made-lawful s (seen q) (sound_whole q sound) sound.lawful
   event_lawful event.Cut q sound = power_lawful (cells_of (kept_cut q.kept)) q.sectors
-  event_lawful one q sound = sound.lawful
+  event_lawful (event.Destage k) q sound = sound.lawful
+  event_lawful (event.WriteMemory address bytes) q sound = sound.lawful
+  event_lawful one q sound = accesses_lawful (accesses_of one) (seen q).device sound.lawful
 
   event_holds : (one : Event) (q : Physical) → ((s : ℕ) (value : List ℕ) → IsAimed q.file.phase s value → Q s value)
       → IsSound Q q

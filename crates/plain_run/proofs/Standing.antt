@@ -1,57 +1,61 @@
 -- A run of a physical drive without a monitor is one of the plain drive for which it stands.
-use Rattle.std.proofs.Common.{◌≡◌, ℕ, Bool, true, false, zero, suc, List, [], ◌∷◌, refl, sym, ap, ◌∙◌, subst, arith}
+use Rattle.std.proofs.Common.{◌≡◌, ℕ, Bool, true, false, List, [], ◌∷◌, refl, sym, ap, ◌∙◌, subst, arith}
 use Rattle.std.specs.Prelude.{if◌then◌else◌}
-use Rattle.ata_taskfile.specs.declared.Access.TheVariants as access
+use Rattle.std.specs.List.{flat_map}
+use Rattle.ata_taskfile.specs.declared.Access.{Access}
 use Rattle.ata_taskfile.specs.declared.Step.{Step}
 use Rattle.ata_taskfile.specs.declared.Step.TheVariants as step
-use Rattle.ata_taskfile.specs.Device.{Cell, Device, word_read, after_read_word, after_write_word}
-use Rattle.plain_drive.specs.Plain.{Plain, with_cells, words_of}
-use Rattle.plain_drive.specs.Words.{words_read, after_words, after_written, bytes_of}
+use Rattle.ata_taskfile.specs.Access.{accessed}
+use Rattle.ata_taskfile.specs.Accesses.{all_accessed, all_answered}
+use Rattle.ata_taskfile.specs.Device.{Cell, Device}
+use Rattle.ata_taskfile.proofs.Cells.{accessed-cells}
+use Rattle.plain_drive.specs.Plain.{Plain, with_cells}
 use Rattle.plain_drive.specs.Step.{step_made, bad_step, acts}
 use Rattle.plain_drive.specs.Cut.{drive_at_power_on}
 use Rattle.plain_drive.specs.Physical.{Physical, StandsFor, seen, cells_of, keeping, physical_accessed}
-use Rattle.plain_drive.proofs.Shared.{celled}
+use Rattle.plain_drive.proofs.Shared.{celled, accessed_shared, answer_shared}
 use Rattle.plain_drive.proofs.Standing.{seen_as, same_acts, durable_are_outcome, access_stands, step_stands, destage_stands, cut_stands}
 use Rattle.plain_drive.proofs.Steps.{step_made_no}
 use Rattle.schedule_text.specs.declared.Event.{Event}
 use Rattle.schedule_text.specs.declared.Event.TheVariants as event
 use Rattle.schedule_text.specs.declared.Item.{Item}
 use Rattle.schedule_text.specs.declared.Item.TheVariants as item
-use Rattle.plain_run.specs.Entry.{Entry, plan_in}
-use Rattle.plain_run.specs.Event.{FollowsPlan, Reaches, answer_to, accessed, is_cut, may_step, memory_written, restarted, went, zeroed}
+use Rattle.plain_run.specs.Entry.{Entry, answer_bytes, answer_items, answers_in, plan_in}
+use Rattle.plain_run.specs.Guest.{accesses_of, after_guest, answer_due, answer_of, bytes_answered, event_reads, memory_written, with_device}
+use Rattle.plain_run.specs.Event.{FollowsPlan, LeadsTo, is_cut, may_step, restarted, went, zeroed}
 use Rattle.plain_run.specs.Run.{DriveEvent, DirectEvent, HasPlainRun, IsDriveRun, drives, physical_event, plan_due, reached_by, step_item}
+use Rattle.plain_run.proofs.Told.{answers_told, plan_told}
 
--- so many reads of Data answer the same over other cells
-words_shared : (cells : List Cell) (n : ℕ) (d : Device) → words_read n (celled cells d) ≡ words_read n d
-unfolding words_read
-words_shared cells zero d = refl
-words_shared cells (suc n) d = λ i. word_read d ∷ words_shared cells n (after_read_word d) i
+-- accesses answer the same over other cells
+answered_shared : (cells : List Cell) (accesses : List Access) (d : Device)
+    → all_answered accesses (celled cells d) ≡ all_answered accesses d
+answered_shared cells [] d = refl
+answered_shared cells (a ∷ accesses) d = λ i. answer_shared cells a d i
+    ∷ (ap (all_answered accesses) (accessed_shared cells a d) ∙ answered_shared cells accesses (accessed a d)) i
 
 -- so does each event
-answer_shared : (cells : List Cell) (one : Event) (p : Plain) → answer_to one (with_cells cells p) ≡ answer_to one p
-answer_shared cells (event.ReadWords n) p = ap (λ words. bytes_of words ∷ []) (words_shared cells n p.device)
-answer_shared cells one p = refl
+reads_shared : (cells : List Cell) (one : Event) (p : Plain) → event_reads one (with_cells cells p) ≡ event_reads one p
+reads_shared cells (event.ReadMemory address n) p = refl
+reads_shared cells one p = ap (flat_map bytes_answered) (answered_shared cells (accesses_of one) p.device)
 
--- words of Data read and written
-words_stand : (n : ℕ) (q : Physical) (p : Plain) → StandsFor q p
-    → StandsFor (reached_by (event.ReadWords n) q) (accessed (event.ReadWords n) p)
-unfolding after_words
-words_stand zero q p stands = stands
-words_stand (suc n) q p stands =
-    words_stand n (physical_accessed access.ReadWord q) (record p { device = after_read_word p.device })
-    (access_stands q p stands access.ReadWord)
+-- a physical drive is seen after an access as it was seen, with another device
+seen_accessed : (a : Access) (q : Physical)
+    → seen (physical_accessed a q) ≡ with_device (accessed a (seen q).device) (seen q)
+seen_accessed a q = ap (λ cells. with_device (celled cells (accessed a (seen q).device)) (seen q))
+    (sym (accessed-cells a (seen q).device))
 
-written_stand : (words : List ℕ) (q : Physical) (p : Plain) → StandsFor q p
-    → StandsFor (keeping q.kept (record (seen q) { device = after_written words (seen q).device }))
-    (record p { device = after_written words p.device })
-unfolding after_written
-written_stand [] q p stands = stands
-written_stand (w ∷ words) q p stands =
-    written_stand words (physical_accessed (access.WriteWord w) q) (record p { device = after_write_word w p.device })
-    (access_stands q p stands (access.WriteWord w))
+-- and stands after all of a guest's accesses
+accesses_stand : (accesses : List Access) (q : Physical) (p : Plain) → StandsFor q p
+    → StandsFor (keeping q.kept (with_device (all_accessed accesses (seen q).device) (seen q)))
+    (with_device (all_accessed accesses p.device) p)
+accesses_stand [] q p stands = stands
+accesses_stand (a ∷ accesses) q p stands =
+    subst (λ (r : Plain). StandsFor (keeping q.kept (with_device (all_accessed accesses r.device) r))
+    (with_device (all_accessed accesses (accessed a p.device)) p)) (seen_accessed a q)
+    (accesses_stand accesses (physical_accessed a q) (with_device (accessed a p.device) p) (access_stands q p stands a))
 
 memory_stands : (address : ℕ) (bytes : List ℕ) (q : Physical) (p : Plain) → StandsFor q p
-    → StandsFor (reached_by (event.WriteMemory address bytes) q) (accessed (event.WriteMemory address bytes) p)
+    → StandsFor (reached_by (event.WriteMemory address bytes) q) (after_guest (event.WriteMemory address bytes) p)
 memory_stands address bytes q p stands = record {
   file = stands.file;
   bus = stands.bus;
@@ -65,7 +69,7 @@ memory_stands address bytes q p stands = record {
 -- its access
 between : Event → Physical → Plain → Plain
 between event.Cut new p = restarted new.kept.durable p
-between one new p = accessed one p
+between one new p = after_guest one p
 
 -- and where it leaves it
 next : Event → Physical → Plain → Plain
@@ -76,18 +80,13 @@ next one new p = between one new p
 next_stands : (one : Event) (q : Physical) (p : Plain) → StandsFor q p
     → StandsFor (physical_event one q) (next one (physical_event one q) p)
 unfolding between next
-next_stands (event.Read8 r) q p stands = access_stands q p stands (access.Read8 r)
-next_stands (event.Write8 r v) q p stands = access_stands q p stands (access.Write8 r v)
-next_stands (event.ReadWords n) q p stands = words_stand n q p stands
-next_stands (event.WriteWords bytes) q p stands = written_stand (words_of bytes) q p stands
-next_stands (event.WritePointer v) q p stands = access_stands q p stands (access.WritePointer v)
 next_stands (event.WriteMemory address bytes) q p stands = memory_stands address bytes q p stands
 next_stands (event.Drive s) q p stands = step_stands q p stands s
 next_stands (event.Destage k) q p stands = destage_stands q p stands k
 next_stands event.Cut q p stands = subst (λ memory. StandsFor (physical_event event.Cut q)
     (drive_at_power_on q.kept.durable p.device.sectors (zeroed memory))) stands.memory
     (cut_stands q p stands (zeroed q.memory))
-next_stands one q p stands = stands
+next_stands one q p stands = accesses_stand (accesses_of one) q p stands
 
 -- answers and commands are no part of a plan
 follows : (items : List Item) (old new : Plain) → FollowsPlan (plan_in items) old new → FollowsPlan items old new
@@ -109,7 +108,7 @@ placed (event.Drive s) p still = absurd cc
 placed one p still = refl
 
 module _ (q : Physical) (p : Plain) (stands : StandsFor q p) where
-  reached : (one : Event) → Reaches (is_cut one) one p (between one (physical_event one q) p)
+  reached : (one : Event) → LeadsTo one p (between one (physical_event one q) p)
   unfolding between
   reached event.Cut = (q.kept.durable, durable_are_outcome q p stands, refl)
   reached one = refl
@@ -125,6 +124,11 @@ module _ (q : Physical) (p : Plain) (stands : StandsFor q p) where
   same_plan (event.Drive s) = ap (λ acting. if acting then step_item s ∷ [] else []) (same_acts q p stands s)
   same_plan one = refl
 
+  -- and the same answer
+  same_answer_due : (one : Event) → answer_due one (seen q) ≡ answer_due one p
+  same_answer_due one = ap (λ (r : Plain). answer_due one r) (seen_as q p stands)
+      ∙ ap answer_of (reads_shared (cells_of q.kept) one p)
+
   -- after a cut the plain drive goes on with what is durable
   cut_next : (one : Event) → is_cut one ≡ true → next one (physical_event one q) p ≡ restarted
       (physical_event one q).kept.durable p
@@ -137,12 +141,14 @@ module _ (q : Physical) (p : Plain) (stands : StandsFor q p) where
       → DirectEvent (drives p q) entry (drives (next entry.event (physical_event entry.event q) p)
       (physical_event entry.event q))
   direct_event entry one =
-      let plan : plan_in entry.items ≡ plan_due entry.event p = one.planned ∙ same_plan entry.event in
+      let plan : plan_in entry.items ≡ plan_due entry.event p = ap plan_in one.items
+      ∙ plan_told entry.event q (physical_event entry.event q) ∙ same_plan entry.event in
       record {
         plain = record {
           between = between entry.event (physical_event entry.event q) p;
-          answered = one.answered ∙ ap (answer_to entry.event) (seen_as q p stands)
-              ∙ answer_shared (cells_of q.kept) entry.event p;
+          answered = ap answers_in one.items ∙ answers_told entry.event q (physical_event entry.event q)
+              ∙ ap answer_items (same_answer_due entry.event);
+          bytes = one.bytes ∙ ap answer_bytes (same_answer_due entry.event);
           reached = reached entry.event;
           placed = λ still. plan ∙ placed entry.event p still;
           followed = follows entry.items _ _ (subst (λ items. FollowsPlan items

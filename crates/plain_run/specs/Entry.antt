@@ -1,6 +1,6 @@
 -- An event with what the report says of it, and the text of reports. Lists of entries have the
 -- newest first.
-use Rattle.std.specs.Prelude.{ℕ, ◌+◌, ◌++◌, List, [], ◌∷◌, length}
+use Rattle.std.specs.Prelude.{ℕ, ◌+◌, ◌++◌, List, [], ◌∷◌, length, Option, Some, None}
 use Rattle.schedule_text.specs.declared.Event.{Event}
 use Rattle.schedule_text.specs.declared.Item.{Item}
 use Rattle.schedule_text.specs.declared.Item.TheVariants as item
@@ -32,13 +32,34 @@ history_text (entry ∷ earlier) =
 abbrev pub report_text : List Entry → List ℕ
 report_text entries = history_text entries ++ end_text (length entries)
 
+-- what is due of an event: the bytes of its answer, where it has one, then the plan of the plain
+-- drive, then the command that the drive took (own)
+pub record Due : Type 0 where
+  pub answer : Option (List ℕ)
+  pub plan : List Item
+  pub commands : List Item
+
+-- the item of an answer
+abbrev pub answer_items : Option (List ℕ) → List Item
+answer_items None = []
+answer_items (Some bytes) = item.Answer ∷ []
+
+-- the bytes of an answer, none where there is none
+abbrev pub answer_bytes : Option (List ℕ) → List ℕ
+answer_bytes None = []
+answer_bytes (Some bytes) = bytes
+
+-- an event's items as one list, in the order of what is due
+abbrev pub items_due : Due → List Item
+items_due due = answer_items due.answer ++ due.plan ++ due.commands
+
 -- the answers among an event's items
-abbrev pub answers_in : List Item → List ℕ → List (List ℕ)
-answers_in [] bytes = []
-answers_in (item.Answer ∷ items) bytes = bytes ∷ answers_in items bytes
-answers_in (item.Go n ∷ items) bytes = answers_in items bytes
-answers_in (item.Bad ∷ items) bytes = answers_in items bytes
-answers_in (item.Command byte first count ∷ items) bytes = answers_in items bytes
+abbrev pub answers_in : List Item → List Item
+answers_in [] = []
+answers_in (item.Answer ∷ items) = item.Answer ∷ answers_in items
+answers_in (item.Go n ∷ items) = answers_in items
+answers_in (item.Bad ∷ items) = answers_in items
+answers_in (item.Command byte first count ∷ items) = answers_in items
 
 -- the plan items: what the report says that the plain drive did
 abbrev pub plan_in : List Item → List Item

@@ -1,4 +1,5 @@
 pub mod Entry
+pub mod Guest
 pub mod Event
 pub mod Taken
 pub mod Run

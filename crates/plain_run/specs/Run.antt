@@ -9,30 +9,21 @@ use Rattle.schedule_text.specs.declared.Event.{Event}
 use Rattle.schedule_text.specs.declared.Event.TheVariants as event
 use Rattle.schedule_text.specs.declared.Item.{Item}
 use Rattle.schedule_text.specs.declared.Item.TheVariants as item
-use Rattle.plain_run.specs.Entry.{Entry, answers_in, commands_in, plan_in}
-use Rattle.plain_run.specs.Event.{PlainEvent, answer_to, accessed, is_cut, restarted, zeroed}
+use Rattle.plain_run.specs.Entry.{Due, Entry, answer_bytes, items_due}
+use Rattle.plain_run.specs.Guest.{after_guest, answer_due}
+use Rattle.plain_run.specs.Event.{PlainEvent, is_cut, restarted, zeroed}
 use Rattle.plain_run.specs.Taken.{commands_due}
 
--- a physical drive after a guest's event, which reaches no sector
+-- the physical drive after what a guest does in an event, which reaches no sector
 abbrev pub reached_by : Event → Physical → Physical
-reached_by one p = keeping p.kept (accessed one (seen p))
+reached_by one p = keeping p.kept (after_guest one (seen p))
 
--- the physical drive after an event: exactly its access, step, destage or cut
+-- the physical drive after an event: exactly its accesses, step, destage or cut
 abbrev pub physical_event : Event → Physical → Physical
-physical_event (event.Read8 r) p = reached_by (event.Read8 r) p
-physical_event (event.Write8 r v) p = reached_by (event.Write8 r v) p
-physical_event (event.ReadWords n) p = reached_by (event.ReadWords n) p
-physical_event (event.WriteWords bytes) p = reached_by (event.WriteWords bytes) p
-physical_event event.ReadPointer p = p
-physical_event (event.WritePointer v) p = reached_by (event.WritePointer v) p
-physical_event (event.ReadMemory address n) p = p
-physical_event (event.WriteMemory address bytes) p = reached_by (event.WriteMemory address bytes) p
-physical_event event.Line p = p
 physical_event (event.Drive s) p = physical_step s p
 physical_event (event.Destage k) p = physical_destaged k p
 physical_event event.Cut p = physical_cut (zeroed p.memory) p
-physical_event event.Remark p = p
-physical_event event.End p = p
+physical_event one p = reached_by one p
 
 -- the plan item of a step that has an effect
 abbrev pub step_item : Step → Item
@@ -44,16 +35,23 @@ abbrev pub plan_due : Event → Plain → List Item
 plan_due (event.Drive s) p = if acts s p then step_item s ∷ [] else []
 plan_due one p = []
 
+-- what is due of an event that leads a drive without a monitor from old to new
+abbrev pub drive_due : Event → Physical → Physical → Due
+drive_due one old new = record {
+  answer = answer_due one (seen old);
+  plan = plan_due one (seen old);
+  commands = commands_due old.file new.file;
+}
+
 -- one event of a physical drive without a monitor:
 pub record DriveEvent (old : Physical) (entry : Entry) (new : Physical) : Type 0 where
-  -- the drive makes exactly its access, step, destage or cut
+  -- the drive makes exactly its accesses, step, destage or cut
   pub after : new ≡ physical_event entry.event old
-  -- its answer is the drive's
-  pub answered : answers_in entry.items entry.bytes ≡ answer_to entry.event (seen old)
-  -- its plan is the step that has an effect
-  pub planned : plan_in entry.items ≡ plan_due entry.event (seen old)
-  -- its commands are those that the drive took
-  pub commands : commands_in entry.items ≡ commands_due old.file new.file
+  -- its items are, in this order, the drive's answer, the step that has an effect, and the command
+  -- that the drive took
+  pub items : entry.items ≡ items_due (drive_due entry.event old new)
+  -- its bytes are those of the answer, none where there is no answer
+  pub bytes : entry.bytes ≡ answer_bytes (answer_due entry.event (seen old))
 
 -- the entries, the newest first, lead a physical drive from start to now, one event after the other
 abbrev pub IsDriveRun : Physical → List Entry → Physical → Type 0

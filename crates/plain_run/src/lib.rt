@@ -1,26 +1,39 @@
 //! The book of runs: what it means that a report is one of a plain drive.
 //!
-//! Start with `specs/Entry.antt`, an event with what the report says of it, then `specs/Event.antt` for one event
-//! of a plain drive and `specs/Run.antt` for a whole run of a drive that has no monitor. `specs/Taken.antt` says
-//! where a report tells that the drive took a command, and `specs/Written.antt` which sectors such lines name as
-//! written. The functions below are laws that show what the definitions mean; `docs/drive.md` has the same in
-//! words.
+//! Start with `specs/Entry.antt`, an event with what the report says of it, then `specs/Guest.antt` for what a guest
+//! does in an event, `specs/Event.antt` for one event of a plain drive and `specs/Run.antt` for a whole run of a drive
+//! that has no monitor. `specs/Taken.antt` says where a report tells that the drive took a command, and
+//! `specs/Written.antt` which sectors such lines name as written. The functions below are laws that show what the
+//! definitions mean; `docs/drive.md` has the same in words.
 
 #![tactic(auto)]
 
 ghost use Rattle.std.specs.Prelude.{◌≡◌, ℕ, List, [], All, length, slice_index_or, false};
 ghost use Rattle.plain_drive.specs.Plain.{Plain};
-ghost use Rattle.plain_drive.specs.Physical.{Physical, StandsFor, fresh, physical_at_power_on};
+ghost use Rattle.plain_drive.specs.Physical.{Physical, StandsFor, fresh, physical_at_power_on, seen};
 ghost use Rattle.schedule_text.specs.declared.Event.TheVariants.{Remark};
-ghost use Rattle.plain_run.specs.Entry.{Entry};
+ghost use Rattle.plain_run.specs.Entry.{Entry, answer_items, answers_in, commands_in, plan_in};
+ghost use Rattle.plain_run.specs.Guest.{answer_due};
 ghost use Rattle.plain_run.specs.Event.{PlainEvent};
-ghost use Rattle.plain_run.specs.Run.{HasPlainRun, IsDriveRun};
+ghost use Rattle.plain_run.specs.Run.{DriveEvent, HasPlainRun, IsDriveRun, plan_due};
+ghost use Rattle.plain_run.specs.Taken.{commands_due};
 ghost use Rattle.plain_run.specs.Written.{is_named};
 
 /// A remark gets no answer and no plan line, and leaves the drive as it is.
 pub fn a_remark_changes_nothing()
     ensures { (old new : Plain) (entry : Entry) → entry.event ≡ Remark
         → PlainEvent old entry new → new ≡ old }
+{}
+
+/// What is due of a drive's event is told once each: its answer, its plan and its command are found among its items,
+/// and no other of their kind is.
+pub fn what_is_due_is_told_once()
+    ensures answers { (old new : Physical) (entry : Entry) → DriveEvent old entry new
+        → answers_in entry.items ≡ answer_items (answer_due entry.event (seen old)) }
+    ensures plan { (old new : Physical) (entry : Entry) → DriveEvent old entry new
+        → plan_in entry.items ≡ plan_due entry.event (seen old) }
+    ensures commands { (old new : Physical) (entry : Entry) → DriveEvent old entry new
+        → commands_in entry.items ≡ commands_due old.file new.file }
 {}
 
 /// Each run of a physical drive that stands for a plain one is, with the same entries, a plain run beside it: its

@@ -5,7 +5,7 @@ use Rattle.schedule_text.specs.declared.Item.TheVariants as item
 use Rattle.schedule_text.specs.declared.Event.{Event}
 use Rattle.schedule_text.specs.declared.Event.TheVariants as event
 use Rattle.plain_run.specs.Entry.{plan_in}
-use Rattle.plain_run.specs.Event.{FollowsPlan, Reaches, is_cut}
+use Rattle.plain_run.specs.Event.{FollowsPlan, LeadsTo}
 use Rattle.plain_run.proofs.a_remark_changes_nothing.Goals as goal
 
 -- without a plan item the plain drive stays
@@ -17,7 +17,7 @@ stays (item.Bad ∷ items) old new none followed = cc
 stays (item.Command byte first count ∷ items) old new none followed = stays items old new none followed
 
 -- nor does a remark itself move it
-remark_stays : (one : Event) (old new : Plain) → one ≡ event.Remark → Reaches (is_cut one) one old new → new ≡ old
+remark_stays : (one : Event) (old new : Plain) → one ≡ event.Remark → LeadsTo one old new → new ≡ old
 remark_stays one old new is reached = rw is at reached
 
 pub returns : goal.returns

@@ -1,6 +1,6 @@
 use Rattle.std.proofs.Common.{◌≡◌, ◌+◌, ◌-◌, ◌++◌, ◌∷◌, [], length}
 use Rattle.schedule_text.specs.declared.Item.TheVariants.{Answer}
-use Rattle.plain_run.specs.Event.{memory_read}
+use Rattle.plain_run.specs.Guest.{memory_read}
 use Rattle.bmcast.proofs.events.answer_memory.Given as goal
 
 abbrev pub invariant-loop-i : goal.invariant-loop-i

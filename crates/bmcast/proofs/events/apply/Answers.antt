@@ -1,8 +1,10 @@
 use Rattle.std.proofs.Common.{ap, sym, ◌∙◌}
 use Rattle.ata_taskfile.specs.declared.task_file.TaskFile.{TaskFile}
-use Rattle.bmcast.specs.Machine.{physical}
 use Rattle.ata_taskfile.specs.Lawful.{is_fresh}
-use Rattle.plain_run.proofs.Noted.{drive_event_noted, drive_event_unnoted}
+use Rattle.plain_run.proofs.Told.{drive_event_noted, drive_event_unnoted}
+use Rattle.plain_drive.specs.Physical.{seen}
+use Rattle.bmcast.specs.Machine.{physical}
+use Rattle.bmcast.proofs.EventLaws.{few_due}
 use Rattle.bmcast.proofs.events.apply.Goals as goal
 
 pub returns-then-not-was_taken : goal.returns-then-not-was_taken
@@ -12,7 +14,7 @@ returns-then-not-was_taken c =
     record {
       event = rw (c.note_command.ensures.items, c.note_command.ensures.bytes, c.file-then-not-was_taken.ensures)
           (drive_event_noted _ _ _ (physical c.args.machine.now) (physical c.act.new.machine) c.act.ensures.after
-          c.act.ensures.answered c.act.ensures.planned c.act.ensures.commands before);
+          c.act.ensures.items c.act.ensures.bytes before);
     }
 
 pub returns-else-not-was_taken : goal.returns-else-not-was_taken
@@ -21,5 +23,9 @@ returns-else-not-was_taken c =
     ∙ c.if-not-was_taken.false in
     record {
       event = drive_event_unnoted _ _ _ (physical c.args.machine.now) (physical c.act.new.machine)
-          c.act.ensures.after c.act.ensures.answered c.act.ensures.planned c.act.ensures.commands before;
+          c.act.ensures.after c.act.ensures.items c.act.ensures.bytes before;
     }
+
+pub note_command-requires : goal.note_command-requires
+note_command-requires c = rw c.act.ensures.items
+    (few_due c.args.event.now (seen (physical c.args.machine.now)))

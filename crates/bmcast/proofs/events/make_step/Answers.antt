@@ -5,13 +5,13 @@ use Rattle.bmcast.specs.Machine.{physical}
 use Rattle.bmcast.proofs.EventLaws.{step_told, step_untold}
 use Rattle.bmcast.proofs.events.make_step.Goals as goal
 
-pub returns-clause-planned : goal.returns-clause-planned
-returns-clause-planned c =
+pub returns-clause-items : goal.returns-clause-items
+returns-clause-items c =
     step_told c.args.step (acts c.args.step (seen (physical c.args.machine.now))) _
     (sym c.in_default.is ∙ (rw c.unwrap-stepped.ensures at c.step.ensures.answer))
     (rw (c.requires.items, c.step_item.ensures) at c.push.ensures.items)
 
-pub returns-in-Nothing-clause-planned : goal.returns-in-Nothing-clause-planned
-returns-in-Nothing-clause-planned c =
+pub returns-in-Nothing-clause-items : goal.returns-in-Nothing-clause-items
+returns-in-Nothing-clause-items c =
     step_untold c.args.step (acts c.args.step (seen (physical c.args.machine.now))) _
     (sym c.in-Nothing.is ∙ (rw c.unwrap-stepped.ensures at c.step.ensures.answer)) c.requires.items

@@ -1,5 +1,5 @@
 use Rattle.std.proofs.Common.{◌≡◌, ◌+◌, length}
-use Rattle.plain_run.specs.Event.{memory_written}
+use Rattle.plain_run.specs.Guest.{memory_written}
 use Rattle.bmcast.specs.Machine.{physical, with_memory}
 use Rattle.bmcast.proofs.events.write_memory.Given as goal
 
