@@ -7,8 +7,8 @@ use Rattle.ata_taskfile.specs.declared.Taken.TheVariants.{Good}
 use Rattle.ata_taskfile.specs.declared.Refused.{Refused}
 use Rattle.ata_taskfile.specs.declared.task_file.TaskFile.{TaskFile}
 use Rattle.ata_taskfile.specs.declared.bus_master.Bus.{Bus}
-use Rattle.ata_taskfile.specs.TaskFile.{holds_reset, refusal_bit, reset_ended, refused, ended_failed, announced}
-use Rattle.ata_taskfile.specs.Data.{gives_words, takes_words, word_taken}
+use Rattle.ata_taskfile.specs.TaskFile.{holds_reset, refusal_bit, reset_ended, refused, ended_failed, interrupted_in}
+use Rattle.ata_taskfile.specs.Data.{gives_words, takes_words, word_given, word_taken}
 use Rattle.ata_taskfile.specs.Device.{is_moving, bus_in_reset}
 use Rattle.ata_taskfile.specs.Lawful.{has_order, IsLawfulState}
 
@@ -42,10 +42,23 @@ pub is_due : (f : TaskFile) (b : Bus) (words n : ℕ) (order : Request) (done : 
 is_due f b words n order done e gives l = grind arith
 
 -- a block that waits in Data
-pub announced_lawful : (f : TaskFile) (b : Bus) (words n : ℕ) (order : Request) (done : ℕ)
+pub waiting_block_lawful : (f : TaskFile) (b : Bus) (words n : ℕ) (order : Request) (done : ℕ)
     → f.phase ≡ Busy (Good order) done → gives_words order.form ≡ true
-    → IsLawfulState f b words n → IsLawfulState (announced (Ready (Good order) done 256) f) b 256 n
-announced_lawful f b words n order done e gives l = grind arith
+    → IsLawfulState f b words n → IsLawfulState (interrupted_in (Ready (Good order) done 256) f) b 256 n
+waiting_block_lawful f b words n order done e gives l = grind arith
+
+-- a word that is given
+pub word_given_lawful : (f : TaskFile) (b : Bus) (words n : ℕ) (order : Request) (done left : ℕ)
+    → f.phase ≡ Ready (Good order) done left
+    → gives_words order.form ≡ true → IsLawfulState f b words n
+    → IsLawfulState (record f { phase = word_given order done left }) b words n
+word_given_lawful f b words n order done left e gives l = grind arith
+
+-- a block that is given is whole
+pub given_block_whole : (f : TaskFile) (b : Bus) (words n : ℕ) (order : Request) (done left : ℕ)
+    → f.phase ≡ Ready (Good order) done left
+    → gives_words order.form ≡ true → IsLawfulState f b words n → words ≡ 256
+given_block_whole f b words n order done left e gives l = grind arith
 
 -- a word that is taken
 pub word_taken_lawful : (f : TaskFile) (b : Bus) (words n : ℕ) (order : Request) (done left : ℕ)

@@ -23,7 +23,7 @@ use Rattle.ata_taskfile.specs.Order.{inputs, Inputs, order_of, taken}
 use Rattle.ata_taskfile.specs.Data.{phase_after_read, phase_after_write, block_after_write}
 use Rattle.ata_taskfile.specs.Device.{Device, with_bus, after_wrote, in_hand, bus_in_reset}
 use Rattle.ata_taskfile.specs.Access.{accessed}
-use Rattle.ata_taskfile.specs.Lawful.{end_of, words_in, is_in_reset, is_possible, end_in, IsLawfulPhase, AreLawful, IsLawfulState, IsLawful}
+use Rattle.ata_taskfile.specs.Lawful.{end_of, has_its_words, is_in_reset, is_possible, end_in, IsLawfulPhase, AreLawful, IsLawfulState, IsLawful}
 
 -- Device Control without HOB keeps its bits
 cleared-kept : (c : ℕ) → bit_and c 134 ≡ c → bit_and (bit_and c 127) 134 ≡ bit_and c 127
@@ -52,7 +52,7 @@ taken-lawful device c old failed pending phase b order idle selected possible l 
     grind (arith, k, s, p)
 
 -- it has taken no word yet
-taken-block : (order : Taken) (words : ℕ) → words ≡ words_in (Busy order 0) words
+taken-block : (order : Taken) (words : ℕ) → has_its_words (Busy order 0) words ≡ true
 taken-block order words = grind arith
 
 -- a Command write is taken in Idle alone, and with DEV at 0
@@ -81,14 +81,13 @@ write_word-within : (phase : Phase) (n : ℕ) → end_of phase ≤ n → end_of 
 write_word-within phase n h = grind arith
 
 -- the block has as many words as its phase says
-read_word-block : (phase : Phase) (words : ℕ) → IsLawfulPhase phase → words ≡ words_in phase words
-    → words ≡ words_in (phase_after_read phase) words
+read_word-block : (phase : Phase) (words : ℕ) → IsLawfulPhase phase → has_its_words phase words ≡ true
+    → has_its_words (phase_after_read phase) words ≡ true
 read_word-block phase words l e = grind arith
 
 write_word-block : (phase : Phase) (w : ℕ) (block : List ℕ) → IsLawfulPhase phase
-    → length block ≡ words_in phase (length block)
-    → length (block_after_write w phase block) ≡ words_in (phase_after_write phase)
-    (length (block_after_write w phase block))
+    → has_its_words phase (length block) ≡ true
+    → has_its_words (phase_after_write phase) (length (block_after_write w phase block)) ≡ true
 write_word-block phase w block l e = grind (arith, common_steps)
 
 -- what is lawful after a write that did this in such a phase: the registers that it left, where it took a command

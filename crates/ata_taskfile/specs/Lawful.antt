@@ -1,5 +1,5 @@
 -- What every device keeps: of its registers, of the command in hand, and of the block in Data.
-use Rattle.std.specs.Prelude.{ℕ, Bool, true, false, not, ◌≡◌, ◌&&◌, ◌||◌, ◌==◌, ◌+◌, ◌-◌, ◌%◌, ◌<◌, ◌≤◌, if◌then◌else◌, bit_and, Option, Some, None, is_some, length}
+use Rattle.std.specs.Prelude.{ℕ, Bool, true, false, not, ◌≡◌, ◌&&◌, ◌||◌, ◌==◌, ◌+◌, ◌-◌, ◌%◌, ◌<◌, ◌≤◌, if◌then◌else◌, nat_lt, bit_and, Option, Some, None, is_some, length}
 use Rattle.ata_taskfile.specs.declared.Kind.{Kind}
 use Rattle.ata_taskfile.specs.declared.Kind.TheVariants.{Read, Write, Verify, Flush, Identify, Features}
 use Rattle.ata_taskfile.specs.declared.Form.{Form}
@@ -38,11 +38,11 @@ position_of (Busy taken done) = done
 position_of (Ready taken done left) = done
 
 -- the drive is at work on a command of which nothing is done
-abbrev pub is_fresh : Phase → Bool
-is_fresh Reset = false
-is_fresh Idle = false
-is_fresh (Busy taken done) = done == 0
-is_fresh (Ready taken done left) = false
+abbrev pub is_just_taken : Phase → Bool
+is_just_taken Reset = false
+is_just_taken Idle = false
+is_just_taken (Busy taken done) = done == 0
+is_just_taken (Ready taken done left) = false
 
 -- how many sectors a running walk has moved; 0 without one
 abbrev pub moved_by : Option ℕ → ℕ
@@ -71,12 +71,12 @@ moves_in Flush form = moves_nothing form
 moves_in Identify form = gives_words form
 moves_in Features form = moves_nothing form
 
--- how many words are left of a block in Ready; 1 outside of it, where none need be
-abbrev pub some_left_in : Phase → ℕ
-some_left_in Reset = 1
-some_left_in Idle = 1
-some_left_in (Busy taken done) = 1
-some_left_in (Ready taken done left) = left
+-- words of the block are left wherever the phase is Ready
+abbrev pub has_words_left : Phase → Bool
+has_words_left Reset = true
+has_words_left Idle = true
+has_words_left (Busy taken done) = true
+has_words_left (Ready taken done left) = nat_lt 0 left
 
 -- a count that a kind of command has: 1 or more sectors of a range, else the one count without a range
 abbrev pub has_count : Kind → ℕ → Bool
@@ -125,7 +125,7 @@ position_end (Ready (Bad reason) done left) = 0
 pub record IsLawfulPhase (phase : Phase) : Type 0 where
   pub possible : has_possible_order phase ≡ true
   pub goes_on : position_of phase < position_end phase
-  pub some_left : 0 < some_left_in phase
+  pub some_left : has_words_left phase ≡ true
   pub most_left : left_in phase ≤ BLOCK_WORDS
 
 -- registers and bus master as every device has them, by what the rules look at (own)
@@ -137,9 +137,9 @@ pub record AreLawful (control device error : ℕ) (failed pending : Bool) (phase
   -- a command in hand has no Error and isn't failed
   pub no_error : has_order phase ≡ true → error ≡ 0
   pub not_failed : has_order phase ≡ true → failed ≡ false
-  -- one that was just taken has DEV at 0 and no interrupt
-  pub selected : is_fresh phase ≡ true → has_bit DEV device ≡ false
-  pub acknowledged : is_fresh phase ≡ true → pending ≡ false
+  -- a command that was just taken has DEV at 0 and no interrupt
+  pub selected : is_just_taken phase ≡ true → has_bit DEV device ≡ false
+  pub acknowledged : is_just_taken phase ≡ true → pending ≡ false
   pub goes_on : IsLawfulPhase phase
   pub pointer : b.pointer % 4 ≡ 0
   -- only start lets active be 1, and only active a walk run
@@ -164,22 +164,23 @@ end_of Idle = 0
 end_of (Busy taken done) = end_in taken
 end_of (Ready taken done left) = end_in taken
 
--- how many words the block has: all 256 where it is given or was taken whole, those that came where it is wanted,
--- else as many as it has
-abbrev pub words_in : Phase → ℕ → ℕ
-words_in Reset words = words
-words_in Idle words = words
-words_in (Busy (Good order) done) words =
-    if takes_words order.form && not (done == 0) then BLOCK_WORDS else words
-words_in (Busy (Bad reason) done) words = words
-words_in (Ready (Good order) done left) words = if takes_words order.form then BLOCK_WORDS - left else BLOCK_WORDS
-words_in (Ready (Bad reason) done left) words = words
+-- a block of so many words is what a phase wants: a whole one where it is given or was taken, the words that came so
+-- far where it is wanted, and any number where no block is in transfer
+abbrev pub has_its_words : Phase → ℕ → Bool
+has_its_words Reset words = true
+has_its_words Idle words = true
+has_its_words (Busy (Good order) done) words =
+    not (takes_words order.form) || (done == 0) || (words == BLOCK_WORDS)
+has_its_words (Busy (Bad reason) done) words = true
+has_its_words (Ready (Good order) done left) words =
+    if takes_words order.form then words == BLOCK_WORDS - left else words == BLOCK_WORDS
+has_its_words (Ready (Bad reason) done left) words = true
 
 -- registers, bus master, block of so many words and count of sectors as every device has them
 pub record IsLawfulState (f : TaskFile) (b : Bus) (words sectors : ℕ) : Type 0 where
   pub registers : HasLawfulRegisters f b
   pub within : end_of f.phase ≤ sectors
-  pub block : words ≡ words_in f.phase words
+  pub block : has_its_words f.phase words ≡ true
 
 -- a device as every one is
 abbrev pub IsLawful : Device → Type 0

@@ -226,9 +226,10 @@ ended_failed error f = record f { error = error; failed = true; pending = true; 
 abbrev pub refused : Refused → TaskFile → TaskFile
 refused reason f = ended_failed (refusal_bit reason) f
 
--- a block of words waits in Data, and interrupts
-abbrev pub announced : Phase → TaskFile → TaskFile
-announced phase f = record f { phase = phase; pending = true }
+-- in a phase that begins with an interrupt: Ready, where a block waits in Data or is wanted there, or Idle, where the
+-- command has ended well (ATA/ATAPI-6, INTRQ)
+abbrev pub interrupted_in : Phase → TaskFile → TaskFile
+interrupted_in phase f = record f { phase = phase; pending = true }
 
 -- the i-th byte of a number, lowest first
 abbrev pub byte_at : ℕ → ℕ → ℕ

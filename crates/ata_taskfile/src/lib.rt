@@ -1,8 +1,8 @@
 //! One ATA device as its host sees it: the register file, the phase of the command in hand, and the trait
 //! `Ports`, by which every other crate reaches a device.
 //!
-//! Start with the enums below, then `registers` for the bits, `task_file` and `bus_master` for the calls, `transfer`
-//! for the words of Data, and `ports` for the trait. `specs/TaskFile.antt`, `Bus.antt` and `Data.antt` say what each
+//! Start with the enums below, then `registers` for the bits and the command bytes, `task_file` and `bus_master` for
+//! the calls, `order` and `transfer` for what a command asks for and how its data moves, and `ports` for the trait. `specs/TaskFile.antt`, `Bus.antt` and `Data.antt` say what each
 //! call does to the registers and the phase, `specs/Device.antt` and `Access.antt` what an access does to the whole
 //! device, `specs/Order.antt` which order a command byte gives, and `specs/Lawful.antt` what every device keeps.
 //! `docs/drive.md` has the same rules as tables.
@@ -11,6 +11,7 @@
 
 mod bus_master;
 mod laws;
+mod order;
 mod ports;
 pub mod registers;
 mod task_file;

@@ -1,7 +1,7 @@
 //! The task file: a device's registers with the phase of its command. `specs/TaskFile.antt` says what each call means.
 
 ghost use Rattle.std.specs.Prelude.{◌≡◌, false};
-ghost use Rattle.ata_taskfile.specs.TaskFile.{line, value, after_read, after_write, wrote, power_on, is_of_bus, reset_ended, refused, announced, ended_failed, addressed, shows_previous, holds_reset, masks_line, selects_absent, status, shown, is_at_work, is_ignored, stored_as, controlled, in_reset, control_wrote, takes_no_command};
+ghost use Rattle.ata_taskfile.specs.TaskFile.{line, value, after_read, after_write, wrote, power_on, is_of_bus, reset_ended, refused, interrupted_in, ended_failed, addressed, shows_previous, holds_reset, masks_line, selects_absent, status, shown, is_at_work, is_ignored, stored_as, controlled, in_reset, control_wrote, takes_no_command};
 
 use crate::registers::{
     ABRT, ADDRESS_BITS, CONTROL_BITS, DEV, HOB, IDNF, NIEN, SRST, STATUS_BLOCK, STATUS_BUSY,
@@ -216,9 +216,10 @@ impl TaskFile {
         }
     }
 
-    /// Shows in this phase that words wait in Data, and interrupts.
-    pub fn announce(&mut self, phase: Phase)
-        ensures { self.new ≡ announced phase self.old }
+    /// Comes into this phase and interrupts: `Ready`, where a block waits in Data or is wanted there, or `Idle`, where
+    /// the command has ended well (ATA/ATAPI-6, INTRQ).
+    pub fn interrupt_in(&mut self, phase: Phase)
+        ensures { self.new ≡ interrupted_in phase self.old }
     {
         self.phase = phase;
         self.pending = true;

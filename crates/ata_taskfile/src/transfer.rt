@@ -2,11 +2,10 @@
 //! master. `specs/Data.antt` says the same.
 
 ghost use Rattle.std.specs.Prelude.{◌≡◌, ◌<◌};
-ghost use Rattle.ata_taskfile.specs.Order.{taken};
 ghost use Rattle.ata_taskfile.specs.Data.{gives_words, takes_words, moves_by_bus, word_given, word_taken};
 ghost use Rattle.ata_taskfile.specs.Device.{is_moving};
 
-use crate::{Form, Phase, Refused, Request, Taken};
+use crate::{Form, Phase, Request, Taken};
 
 impl Form {
     /// The words are read from Data (ATA/ATAPI-6, PIO data-in).
@@ -36,18 +35,6 @@ impl Form {
         match self {
             Form::DmaIn | Form::DmaOut => true,
             Form::NoMove | Form::PioIn | Form::PioOut => false,
-        }
-    }
-}
-
-impl Taken {
-    /// An order as a device keeps it in hand.
-    pub fn of(order: Result<Request, Refused>) -> Taken
-        ensures { result ≡ taken order }
-    {
-        match order {
-            Ok(request) => Taken::Good(request),
-            Err(reason) => Taken::Bad(reason),
         }
     }
 }

@@ -1,8 +1,7 @@
 //! One event of the schedule, on a drive without a monitor.
 
 ghost use Rattle.std.specs.Prelude.{◌≡◌, ◌≤◌, ◌+◌, ◌++◌, ◌∷◌, [], length};
-ghost use Rattle.ata_taskfile.specs.Lawful.{is_fresh};
-ghost use Rattle.ata_taskfile.specs.Order.{has_range};
+ghost use Rattle.ata_taskfile.specs.Lawful.{is_just_taken};
 ghost use Rattle.plain_drive.specs.Plain.{words_of};
 ghost use Rattle.plain_drive.specs.Physical.{seen};
 ghost use Rattle.plain_drive.specs.Words.{words_read, after_words, after_written, bytes_of};
@@ -14,7 +13,7 @@ ghost use Rattle.plain_run.specs.Taken.{just_taken, command_item};
 ghost use Rattle.bmcast.specs.Machine.{device, physical, with_device, with_memory};
 
 use crate::machine::Machine;
-use ata_taskfile::{Kind, Phase, Ports, Step, Stepped, Taken, TaskFile};
+use ata_taskfile::{Phase, Ports, Step, Stepped, Taken, TaskFile};
 use schedule_text::{Emitted, Event, Item};
 
 /// Lets the drive act as one event says, and tells what the report says of it.
@@ -193,7 +192,7 @@ fn command_item(byte: u8, order: Taken) -> Item
     ensures { result ≡ command_item byte order }
 {
     match order {
-        Taken::Good(order) if has_range(order.kind) => Item::Command(
+        Taken::Good(order) if order.kind.has_range() => Item::Command(
             byte,
             order.first,
             order.count,
@@ -202,17 +201,8 @@ fn command_item(byte: u8, order: Taken) -> Item
     }
 }
 
-fn has_range(kind: Kind) -> bool
-    ensures { result ≡ has_range kind }
-{
-    match kind {
-        Kind::Read | Kind::Write | Kind::Verify => true,
-        Kind::Flush | Kind::Identify | Kind::Features => false,
-    }
-}
-
 fn is_just_taken(file: &TaskFile) -> bool
-    ensures { result ≡ is_fresh file.now.phase }
+    ensures { result ≡ is_just_taken file.now.phase }
 {
     matches!(file.phase, Phase::Busy(_, 0))
 }

@@ -106,14 +106,6 @@ impl<S: Store> Drive<S> {
         self.sectors.destage(k)
     }
 
-    // A word of the block.
-    pub(crate) fn word(&self, i: u16) -> u16
-        requires { i < self.now.words }
-        ensures { result ≡ slice_index (device_of self.now).block i }
-    {
-        self.block[i as usize]
-    }
-
     // Takes a word into the block, behind the words that are there.
     #[tactic(auto, using(std::proofs::lemmas::List::take_more_set, crate::proofs::Blocks::length_pushed))]
     pub(crate) fn push_word(&mut self, w: u16, phase: Phase)

@@ -1,16 +1,17 @@
 //! The guest's accesses to a drive.
 
-ghost use Rattle.std.specs.Prelude.{◌≡◌, false};
+ghost use Rattle.std.specs.Prelude.{◌≡◌, ◌-◌, false, true, slice_index};
 ghost use Rattle.std.proofs.Common.{subst, sym, ℕ};
 ghost use Rattle.ata_taskfile.specs.TaskFile.{is_of_bus};
-ghost use Rattle.ata_taskfile.specs.Device.{after_write8};
+ghost use Rattle.ata_taskfile.specs.Data.{gives_words, word_given};
+ghost use Rattle.ata_taskfile.specs.Device.{after_write8, with_phase};
 ghost use Rattle.ata_taskfile.specs.Lawful.{IsLawfulState};
 ghost use Rattle.drive_model.specs.Drive.{Behind, behind, count_of, device_of};
 
 use crate::Drive;
 use ata_command::read_request;
 use ata_taskfile::registers::BLOCK_WORDS;
-use ata_taskfile::{Phase, Ports, Reg, Taken, Wrote};
+use ata_taskfile::{Phase, Ports, Reg, Request, Taken, Wrote};
 use drive_store::Store;
 
 impl<S: Store> Ports for Drive<S> {
@@ -40,11 +41,8 @@ impl<S: Store> Ports for Drive<S> {
 
     fn read_word(&mut self) -> u16 {
         match self.file.phase {
-            Phase::Ready(Taken::Good(order), done, left) if order.form.gives_words() => {
-                let word = self.word(BLOCK_WORDS - left);
-                self.file.phase = order.word_given(done, left);
-                word
-            }
+            Phase::Ready(Taken::Good(order), done, left) if order.form.gives_words() =>
+                self.give_word(order, done, left),
             _ => 0xffff,
         }
     }
@@ -83,6 +81,21 @@ impl<S: Store> Ports for Drive<S> {
 }
 
 impl<S: Store> Drive<S> {
+    // Gives the next word of the block that waits in Data.
+    #[tactic(auto, using(ata_taskfile::proofs::Ends::given_block_whole, ata_taskfile::proofs::Ends::word_given_lawful))]
+    fn give_word(&mut self, order: Request, done: u32, left: u16) -> u16
+        requires phase { self.old.file.phase ≡ Phase.Ready (Taken.Good order) done left }
+        requires gives { gives_words order.form ≡ true }
+        ensures answer { result ≡ slice_index (device_of self.old).block (256 - left) }
+        ensures after { device_of self.new
+            ≡ with_phase (word_given order done left) (device_of self.old) }
+        ensures sectors { self.new.sectors ≡ self.old.sectors }
+    {
+        let word = self.block[(BLOCK_WORDS - left) as usize];
+        self.file.phase = order.word_given(done, left);
+        word
+    }
+
     // Writes a register of the task file.
     fn write_file(&mut self, reg: Reg, v: u8)
         requires { is_of_bus reg ≡ false }

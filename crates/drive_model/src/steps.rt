@@ -172,7 +172,7 @@ impl<S: Store> Drive<S> {
         ensures sectors { self.new.sectors ≡ self.old.sectors }
     {
         let mut file = self.file;
-        file.announce(Phase::Idle);
+        file.interrupt_in(Phase::Idle);
         self.put_file(file);
     }
 }

@@ -8,7 +8,7 @@ use Rattle.ata_taskfile.specs.declared.Request.{Request}
 use Rattle.ata_taskfile.specs.declared.Taken.TheVariants.{Good}
 use Rattle.ata_taskfile.specs.declared.task_file.TaskFile.{TaskFile}
 use Rattle.ata_taskfile.specs.declared.bus_master.Bus.{Bus}
-use Rattle.ata_taskfile.specs.TaskFile.{ended_failed, announced, addressed}
+use Rattle.ata_taskfile.specs.TaskFile.{ended_failed, interrupted_in, addressed}
 use Rattle.ata_taskfile.specs.Bus.{walk_ended}
 use Rattle.ata_taskfile.specs.Order.{has_range}
 use Rattle.ata_taskfile.specs.Data.{takes_words, moves_by_bus}
@@ -26,7 +26,7 @@ ended_registers phase order done c device error failed pending b e still l = gri
 
 pub ended_lawful : (f : TaskFile) (b : Bus) (words n : ℕ) (order : Request) (done : ℕ)
     → f.phase ≡ Busy (Good order) done → moves_by_bus order.form ≡ false
-    → IsLawfulState f b words n → IsLawfulState (announced Idle f) b words n
+    → IsLawfulState f b words n → IsLawfulState (interrupted_in Idle f) b words n
 ended_lawful f b words n order done e still l = record {
   registers = ended_registers f.phase order done f.control f.device f.error f.failed f.pending b e still l.registers;
   within = omega arith;
@@ -54,7 +54,7 @@ transferred_registers phase order done c device error failed pending b e l = gri
 
 pub transferred_lawful : (f : TaskFile) (b : Bus) (words n : ℕ) (order : Request) (done : ℕ)
     → f.phase ≡ Busy (Good order) done
-    → IsLawfulState f b words n → IsLawfulState (announced Idle f) (walk_ended b) words n
+    → IsLawfulState f b words n → IsLawfulState (interrupted_in Idle f) (walk_ended b) words n
 transferred_lawful f b words n order done e l = record {
   registers = transferred_registers f.phase order done f.control f.device f.error f.failed f.pending b e l.registers;
   within = omega arith;
@@ -107,7 +107,7 @@ wanted_registers phase order done c device error failed pending interrupts b e t
 
 pub wanted_lawful : (f : TaskFile) (b : Bus) (words n : ℕ) (order : Request) (done : ℕ)
     → f.phase ≡ Busy (Good order) done → takes_words order.form ≡ true
-    → done < order.count → IsLawfulState f b words n → IsLawfulState (announced (Ready (Good order) done 256) f) b 0 n
+    → done < order.count → IsLawfulState f b words n → IsLawfulState (interrupted_in (Ready (Good order) done 256) f) b 0 n
 wanted_lawful f b words n order done e takes more l = record {
   registers = wanted_registers f.phase order done f.control f.device f.error f.failed f.pending
       true b e takes more l.registers;

@@ -13,13 +13,13 @@ use Rattle.ata_taskfile.specs.declared.Refused.{Refused}
 use Rattle.ata_taskfile.specs.declared.Step.{Step}
 use Rattle.ata_taskfile.specs.declared.Step.TheVariants as step
 use Rattle.ata_taskfile.specs.declared.task_file.TaskFile.{TaskFile}
-use Rattle.ata_taskfile.specs.TaskFile.{line, holds_reset, reset_ended, refused, announced, ended_failed}
+use Rattle.ata_taskfile.specs.TaskFile.{line, holds_reset, reset_ended, refused, interrupted_in, ended_failed}
 use Rattle.ata_taskfile.specs.Bus.{walk_ended}
 use Rattle.ata_taskfile.specs.Data.{gives_words, takes_words, moves_by_bus}
 use Rattle.ata_taskfile.specs.Device.{Device, with_bus}
 use Rattle.ata_taskfile.specs.Lawful.{IsLawfulState, IsLawful}
 use Rattle.ata_taskfile.proofs.Lawfulness.{raised_lawful}
-use Rattle.ata_taskfile.proofs.Ends.{announced_lawful, is_due, reset_ended_lawful, refused_lawful}
+use Rattle.ata_taskfile.proofs.Ends.{waiting_block_lawful, is_due, reset_ended_lawful, refused_lawful}
 use Rattle.plain_drive.specs.Plain.{Plain, with_registers, with_block, sector_value}
 use Rattle.plain_drive.specs.Laws.{HasWholeSectors}
 use Rattle.plain_drive.specs.Step.{words_due, offered, ended, next_wanted, first_wanted, walked, sector_given, transferred, proceeded, stepped, failed_step, failure_shown, failure_bit, step_made}
@@ -51,16 +51,16 @@ module _ (order : Request) (done : ℕ) (p : Plain) (e : p.device.file.phase ≡
       let many = due-length order.kind (order.first + done) p.device
       (whole (order.first + done) (is_due p.device.file p.device.bus (length p.device.block)
       p.device.sectors order done e gives l)) in
-      registers_lawful (announced (Ready (Good order) done 256) p.device.file) (with_block block p)
-      (rw many (announced_lawful p.device.file p.device.bus (length p.device.block) p.device.sectors
+      registers_lawful (interrupted_in (Ready (Good order) done 256) p.device.file) (with_block block p)
+      (rw many (waiting_block_lawful p.device.file p.device.bus (length p.device.block) p.device.sectors
       order done e gives l))
 
   next-lawful : takes_words order.form ≡ true → (more : Bool) → nat_lt done order.count ≡ more
       → IsLawful (if more then offered order done [] p else ended p).device
-  next-lawful takes true is = registers_lawful (announced (Ready (Good order) done 256) p.device.file)
+  next-lawful takes true is = registers_lawful (interrupted_in (Ready (Good order) done 256) p.device.file)
       (with_block [] p) (wanted_lawful p.device.file p.device.bus (length p.device.block) p.device.sectors
       order done e takes (grind arith) l)
-  next-lawful takes false is = registers_lawful (announced Idle p.device.file) p
+  next-lawful takes false is = registers_lawful (interrupted_in Idle p.device.file) p
       (ended_lawful p.device.file p.device.bus (length p.device.block) p.device.sectors order done e (grind arith) l)
 
   received-lawful : takes_words order.form ≡ true → (first : Bool) → (done == 0) ≡ first
@@ -72,7 +72,7 @@ module _ (order : Request) (done : ℕ) (p : Plain) (e : p.device.file.phase ≡
 
   moved-lawful : (moves : Bool) → moves ≡ true
       → IsLawful (ended (if moves then record p { device = with_bus (walk_ended p.device.bus) p.device } else p)).device
-  moved-lawful true is = registers_lawful (announced Idle p.device.file)
+  moved-lawful true is = registers_lawful (interrupted_in Idle p.device.file)
       (record p { device = with_bus (walk_ended p.device.bus) p.device })
       (transferred_lawful p.device.file p.device.bus (length p.device.block) p.device.sectors order done e l)
   moved-lawful false is = absurd cc
@@ -98,7 +98,7 @@ module _ (order : Request) (done : ℕ) (p : Plain) (e : p.device.file.phase ≡
   proceeded-lawful PioOut is whole = received-lawful (rw is refl) (done == 0) refl
   proceeded-lawful DmaIn is whole = given-lawful (rw is refl) (nat_lt done order.count) refl
   proceeded-lawful DmaOut is whole = fetched-lawful (rw is refl) (nat_lt done order.count) refl
-  proceeded-lawful NoMove is whole = registers_lawful (announced Idle p.device.file) p
+  proceeded-lawful NoMove is whole = registers_lawful (interrupted_in Idle p.device.file) p
       (ended_lawful p.device.file p.device.bus (length p.device.block) p.device.sectors order done e (rw is refl) l)
 
   failed-lawful : (moves : Bool) → moves_by_bus order.form ≡ moves

@@ -15,7 +15,7 @@ use Rattle.ata_taskfile.specs.declared.Stepped.TheVariants.{Nothing, Changed}
 use Rattle.ata_taskfile.specs.declared.registers.TheConstants.{UNC, ABRT}
 use Rattle.ata_taskfile.specs.declared.task_file.TaskFile.{TaskFile}
 use Rattle.ata_taskfile.specs.Bus.{walk_ended}
-use Rattle.ata_taskfile.specs.TaskFile.{holds_reset, reset_ended, refused, announced, ended_failed, addressed}
+use Rattle.ata_taskfile.specs.TaskFile.{holds_reset, reset_ended, refused, interrupted_in, ended_failed, addressed}
 use Rattle.ata_taskfile.specs.Order.{has_range}
 use Rattle.ata_taskfile.specs.Data.{moves_by_bus}
 use Rattle.ata_taskfile.specs.Device.{Device, with_bus, with_phase, is_walking}
@@ -28,12 +28,12 @@ use Rattle.plain_drive.specs.Change.{cells_after, change_made}
 
 -- a command that ends well: Idle, and an interrupt pends; Count and the LBA registers stay
 abbrev pub ended : Plain → Plain
-ended p = with_registers (announced Idle p.device.file) p
+ended p = with_registers (interrupted_in Idle p.device.file) p
 
 -- a block waits in Data, or is wanted there, and an interrupt pends
 abbrev pub offered : Request → ℕ → List ℕ → Plain → Plain
 offered order done block p =
-    with_registers (announced (Ready (Good order) done 256) p.device.file) (with_block block p)
+    with_registers (interrupted_in (Ready (Good order) done 256) p.device.file) (with_block block p)
 
 -- the words that a command gives: IDENTIFY DEVICE its own, any other those of the sector that is
 -- due (ATA/ATAPI-6, PIO data-in)

@@ -24,7 +24,7 @@ use Rattle.ata_taskfile.specs.Bus.{bus_written}
 use Rattle.ata_taskfile.specs.Data.{phase_after_read, phase_after_write}
 use Rattle.ata_taskfile.specs.Order.{Row, Inputs, inputs, has_range, row_of, order_in, order_of, taken, request_of, within, is_accepted}
 use Rattle.ata_taskfile.specs.Device.{Device, with_bus, in_hand, after_wrote, after_read8, after_write8, after_read_word, after_write_word}
-use Rattle.ata_taskfile.specs.Lawful.{is_fresh, is_possible, moves_in}
+use Rattle.ata_taskfile.specs.Lawful.{is_just_taken, is_possible, moves_in}
 use Rattle.ata_taskfile.proofs.Lawfulness.{order-possible}
 use Rattle.plain_drive.specs.Plain.{Plain, with_registers}
 use Rattle.plain_drive.specs.Words.{after_words, after_written}
@@ -51,7 +51,7 @@ outward_ranged : (kind : Kind) (form : Form) → moves_in kind form ≡ true →
 outward_ranged kind form possible outward = grind arith
 
 -- where a Command write isn't ignored, no command was just taken
-none_taken : (phase : Phase) (absent : Bool) → (takes_no_command phase || absent) ≡ false → is_fresh phase ≡ false
+none_taken : (phase : Phase) (absent : Bool) → (takes_no_command phase || absent) ≡ false → is_just_taken phase ≡ false
 none_taken phase absent e = grind arith
 
 module _ (s : ℕ) where

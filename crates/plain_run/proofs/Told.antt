@@ -9,7 +9,7 @@ use Rattle.ata_taskfile.specs.declared.Taken.{Taken}
 use Rattle.ata_taskfile.specs.declared.Taken.TheVariants.{Good, Bad}
 use Rattle.ata_taskfile.specs.declared.task_file.TaskFile.{TaskFile}
 use Rattle.ata_taskfile.specs.Order.{has_range}
-use Rattle.ata_taskfile.specs.Lawful.{is_fresh}
+use Rattle.ata_taskfile.specs.Lawful.{is_just_taken}
 use Rattle.plain_drive.specs.Plain.{Plain}
 use Rattle.plain_drive.specs.Step.{acts}
 use Rattle.plain_drive.specs.Physical.{Physical, seen}
@@ -86,7 +86,7 @@ unless_has true items all = record { answers = refl; plan = refl; commands = ref
 unless_has false items all = all
 
 commands_has : (old new : TaskFile) → Has (commands_due old new) [] [] (commands_due old new)
-commands_has old new = unless_has (is_fresh old.phase) (just_taken new.command new.phase)
+commands_has old new = unless_has (is_just_taken old.phase) (just_taken new.command new.phase)
     (just_has new.command new.phase)
 
 -- three lists of items, one behind the other, of which the first are answers, the next a plan, and the last commands
@@ -123,7 +123,7 @@ module _ (one : Event) (old new : Physical) where
 pub drive_event_noted : (one : Event) (items : List Item) (bytes : List ℕ) (old new : Physical)
     → new ≡ physical_event one old
     → items ≡ answer_items (answer_due one (seen old)) ++ plan_due one (seen old)
-    → bytes ≡ answer_bytes (answer_due one (seen old)) → is_fresh old.file.phase ≡ false
+    → bytes ≡ answer_bytes (answer_due one (seen old)) → is_just_taken old.file.phase ≡ false
     → DriveEvent old (entry_of one (items ++ just_taken new.file.command new.file.phase) bytes) new
 drive_event_noted one items bytes old new after told answer before = record {
   after = after;
@@ -135,7 +135,7 @@ drive_event_noted one items bytes old new after told answer before = record {
 pub drive_event_unnoted : (one : Event) (items : List Item) (bytes : List ℕ) (old new : Physical)
     → new ≡ physical_event one old
     → items ≡ answer_items (answer_due one (seen old)) ++ plan_due one (seen old)
-    → bytes ≡ answer_bytes (answer_due one (seen old)) → is_fresh old.file.phase ≡ true
+    → bytes ≡ answer_bytes (answer_due one (seen old)) → is_just_taken old.file.phase ≡ true
     → DriveEvent old (entry_of one items bytes) new
 drive_event_unnoted one items bytes old new after told answer before = record {
   after = after;

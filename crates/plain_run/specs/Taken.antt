@@ -6,7 +6,7 @@ use Rattle.ata_taskfile.specs.declared.Phase.{Phase}
 use Rattle.ata_taskfile.specs.declared.Phase.TheVariants.{Reset, Idle, Busy, Ready}
 use Rattle.ata_taskfile.specs.declared.task_file.TaskFile.{TaskFile}
 use Rattle.ata_taskfile.specs.Order.{has_range}
-use Rattle.ata_taskfile.specs.Lawful.{is_fresh}
+use Rattle.ata_taskfile.specs.Lawful.{is_just_taken}
 use Rattle.schedule_text.specs.declared.Item.{Item}
 use Rattle.schedule_text.specs.declared.Item.TheVariants as item
 
@@ -30,4 +30,4 @@ just_taken byte (Ready order done left) = []
 -- the command items of an event: one exactly where the drive is at work after it on a command of
 -- which nothing is done, and wasn't before
 abbrev pub commands_due : TaskFile → TaskFile → List Item
-commands_due old new = if is_fresh old.phase then [] else just_taken new.command new.phase
+commands_due old new = if is_just_taken old.phase then [] else just_taken new.command new.phase

@@ -10,7 +10,7 @@ ghost use Rattle.port_lease.specs.Writing.{IsFresh};
 ghost use Rattle.ata_taskfile.specs.declared.Phase.TheVariants.{Busy as AtWork};
 ghost use Rattle.ata_taskfile.specs.Order.{inputs, order_of, taken};
 ghost use Rattle.ata_taskfile.specs.Device.{with_bus};
-ghost use Rattle.ata_taskfile.specs.Lawful.{is_fresh};
+ghost use Rattle.ata_taskfile.specs.Lawful.{is_just_taken};
 
 use crate::writing::{put_command, put_control, put_registers, start_bus};
 use crate::{GuestSide, MonitorSide, View};
@@ -47,7 +47,7 @@ pub fn give<P: Ports>(side: MonitorSide, ports: &mut P, command: u8) -> GuestSid
 // The view's walk, where the command uses the bus master.
 fn give_bus<P: Ports>(view: &View, ports: &mut P)
     requires lawful { IsLawfulView view.now }
-    requires fresh { is_fresh view.now.file.phase ≡ true }
+    requires fresh { is_just_taken view.now.file.phase ≡ true }
     requires walking { uses_bus view.now ≡ true → is_some view.now.bus.walk ≡ true }
     ensures given { let d = P.device ports.old in
         P.device ports.new ≡ with_bus (bus_given view.now d.bus) d }

@@ -38,11 +38,8 @@ fn show_failure(file: &mut TaskFile, order: Request, done: u32)
     requires position { has_range order.kind ≡ true → done ≤ order.count }
     ensures { file.new ≡ failure_shown order done file.old }
 {
-    match order.kind {
-        Kind::Read | Kind::Write | Kind::Verify => {
-            file.put_address(order.extended, failed_sector(order, done));
-        }
-        Kind::Flush | Kind::Identify | Kind::Features => {}
+    if order.kind.has_range() {
+        file.put_address(order.extended, failed_sector(order, done));
     }
 }
 

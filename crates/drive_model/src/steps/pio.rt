@@ -1,7 +1,7 @@
 //! Steps of a command whose data moves through Data, a block at a time (ATA/ATAPI-6, PIO data-in and data-out).
 
 ghost use Rattle.std.specs.Prelude.{◌≡◌, ◌≢◌, ◌+◌, ◌-◌, ◌≤◌, ℕ, List, IfOk, OnOk, true};
-ghost use Rattle.ata_taskfile.specs.TaskFile.{announced};
+ghost use Rattle.ata_taskfile.specs.TaskFile.{interrupted_in};
 ghost use Rattle.ata_taskfile.specs.Data.{gives_words, takes_words};
 ghost use Rattle.ata_taskfile.specs.Lawful.{IsLawfulState};
 ghost use Rattle.plain_drive.specs.Words.{bytes_of};
@@ -20,7 +20,7 @@ use drive_store::{Store, StoreFault};
 
 impl<S: Store> Drive<S> {
     // Loads the words that are due, which wait in Data from now on.
-    #[tactic(auto, using(ata_taskfile::proofs::Ends::is_due, ata_taskfile::proofs::Ends::announced_lawful))]
+    #[tactic(auto, using(ata_taskfile::proofs::Ends::is_due, ata_taskfile::proofs::Ends::waiting_block_lawful))]
     pub(crate) fn give_block(&mut self, order: Request, done: u32) -> Result<Stepped, StoreFault>
         requires phase { self.old.file.phase ≡ Phase.Busy (Taken.Good order) done }
         requires gives { gives_words order.form ≡ true }
@@ -107,7 +107,7 @@ impl<S: Store> Drive<S> {
     fn offer(&mut self, order: Request, done: u32, block: [u16; 256], words: u16)
         requires room { words ≤ 256 }
         requires lawful { IsLawfulState
-            (announced (Phase.Ready (Taken.Good order) done 256) self.old.file)
+            (interrupted_in (Phase.Ready (Taken.Good order) done 256) self.old.file)
             self.old.bus words (count_of self.old) }
         ensures after { (memory : List ℕ) → physical_of self.new memory
             ≡ worked leaves (offered order done (block_of block words))
@@ -115,7 +115,7 @@ impl<S: Store> Drive<S> {
         ensures sectors { self.new.sectors ≡ self.old.sectors }
     {
         let mut file = self.file;
-        file.announce(Phase::Ready(Taken::Good(order), done, BLOCK_WORDS));
+        file.interrupt_in(Phase::Ready(Taken::Good(order), done, BLOCK_WORDS));
         self.put_block(file, block, words);
     }
 }

@@ -62,7 +62,7 @@ impl<S: Store> Drive<S> {
     {
         self.bus.end_walk();
         let mut file = self.file;
-        file.announce(Phase::Idle);
+        file.interrupt_in(Phase::Idle);
         self.put_file(file);
     }
 

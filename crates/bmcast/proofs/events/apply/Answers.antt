@@ -1,6 +1,6 @@
 use Rattle.std.proofs.Common.{ap, sym, ◌∙◌}
 use Rattle.ata_taskfile.specs.declared.task_file.TaskFile.{TaskFile}
-use Rattle.ata_taskfile.specs.Lawful.{is_fresh}
+use Rattle.ata_taskfile.specs.Lawful.{is_just_taken}
 use Rattle.plain_run.proofs.Told.{drive_event_noted, drive_event_unnoted}
 use Rattle.plain_drive.specs.Physical.{seen}
 use Rattle.bmcast.specs.Machine.{physical}
@@ -9,7 +9,7 @@ use Rattle.bmcast.proofs.events.apply.Goals as goal
 
 pub returns-then-not-was_taken : goal.returns-then-not-was_taken
 returns-then-not-was_taken c =
-    let before = ap (λ (f : TaskFile). is_fresh f.phase) (sym c.file.ensures) ∙ sym c.is_just_taken-was_taken.ensures
+    let before = ap (λ (f : TaskFile). is_just_taken f.phase) (sym c.file.ensures) ∙ sym c.is_just_taken-was_taken.ensures
     ∙ c.if-not-was_taken.true in
     record {
       event = rw (c.note_command.ensures.items, c.note_command.ensures.bytes, c.file-then-not-was_taken.ensures)
@@ -19,7 +19,7 @@ returns-then-not-was_taken c =
 
 pub returns-else-not-was_taken : goal.returns-else-not-was_taken
 returns-else-not-was_taken c =
-    let before = ap (λ (f : TaskFile). is_fresh f.phase) (sym c.file.ensures) ∙ sym c.is_just_taken-was_taken.ensures
+    let before = ap (λ (f : TaskFile). is_just_taken f.phase) (sym c.file.ensures) ∙ sym c.is_just_taken-was_taken.ensures
     ∙ c.if-not-was_taken.false in
     record {
       event = drive_event_unnoted _ _ _ (physical c.args.machine.now) (physical c.act.new.machine)

@@ -11,4 +11,4 @@ returns-clause-after g c = λ memory.
     c.put_block.ensures.after memory
     ∙ ap (λ (file : TaskFile). worked leaves
     (λ (p : Plain). with_registers file (with_block (block_of c.args.block c.args.words) p))
-    (physical_of c.args.self.now memory)) c.announce.ensures
+    (physical_of c.args.self.now memory)) c.interrupt_in.ensures
