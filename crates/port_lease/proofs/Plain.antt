@@ -95,3 +95,17 @@ asked-written r v d false true plain is = rw is (ap (λ f. record d { file = f }
 pub asked_written : (r : Reg) (v : ℕ) (d : Device) → is_plain_register r ≡ true
     → plainly_written r v (asked d) ≡ plainly_written r v d
 asked_written r v d plain = asked-written r v d (is_at_work d.file.phase) (selects_absent d.file) plain refl
+
+-- Device written with another byte, and then with its own: HOB alone can have changed
+put-back : (v : ℕ) (d : Device) (work absent : Bool) → is_at_work d.file.phase ≡ work
+    → selects_absent d.file ≡ absent → absent ≡ true
+    → plainly_written reg.Device d.file.device (if work then d else record d { file = stored reg.Device v d.file })
+    ≡ (if absent && not work then record d { file = hob_cleared d.file } else d)
+put-back v d work false is shown absent = cc
+put-back v d true true is shown absent = rw is refl
+put-back v d false true is shown absent =
+    rw is (ap (λ c. record d { file = record d.file { control = c } }) (twice d.file.control))
+
+pub put_back : (v : ℕ) (d : Device) → selects_absent d.file ≡ true
+    → plainly_written reg.Device d.file.device (plainly_written reg.Device v d) ≡ asked d
+put_back v d absent = put-back v d (is_at_work d.file.phase) (selects_absent d.file) refl refl absent

@@ -209,6 +209,7 @@ fn is_at_work<P: Ports>(ports: &mut P) -> bool
 }
 
 // Whether the drive ignores a write of Device: bit 0 is written changed, read back, and written as it was.
+#[tactic(auto, using(crate::proofs::Plain::put_back))]
 fn ignores<P: Ports>(ports: &mut P, device: u8) -> bool
     requires absent { selects_absent (P.device ports.old).file ≡ true }
     requires shown { device ≡ (P.device ports.old).file.device }
