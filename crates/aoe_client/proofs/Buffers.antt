@@ -5,13 +5,13 @@ use Rattle.std.proofs.Math.ListN.{length-set}
 use Rattle.std.proofs.Math.Nat.{mul-le-mul_right}
 use Rattle.std.proofs.lemmas.Bool.{cases_eq, cases_lt, cond_below, cond_above, true≢false}
 use Rattle.std.proofs.lemmas.Option.{slice_get_within}
-use Rattle.mon_pool.specs.Region.{Region, AreOf, IsOf, IsWhole, bytes_of}
-use Rattle.mon_pool.proofs.Slots.{of_before}
+use Rattle.mon_pool.specs.Region.{Region, AreOf, IsOf, HasWholeBuffers, leased_bytes}
+use Rattle.mon_pool.proofs.Leases.{of_before}
 use Rattle.mon_pool.proofs.Parts.{length_bytes, length_written, part_written, part_kept, own_bytes, others_bytes, whole_written}
 use Rattle.aoe_client.specs.declared.tags.TagState.{TagState}
 use Rattle.aoe_client.specs.declared.tags.TagState.TheVariants.{Answered}
 use Rattle.aoe_client.specs.declared.tags.TheConstants.{PART_BYTES}
-use Rattle.aoe_client.specs.Fetching.{Fetching, first_tag, is_open, part, state_of, with_part, with_sectors, with_tag}
+use Rattle.aoe_client.specs.Fetching.{Fetching, first_tag, is_open, part, state_of, with_part, with_tag_sectors, with_tag}
 use Rattle.aoe_client.specs.Asking.{Asking, HasRoom, HasTags, heard, buffers_heard, is_open_in, lease_in, leases_of, slot_answered, slot_filled}
 use Rattle.aoe_client.specs.declared.client.Heard.TheVariants.{Took}
 use Rattle.aoe_client.specs.Buffers.{BothHold, Holds}
@@ -43,34 +43,34 @@ open_within tag first tags yet = elim (cases_lt tag first) [
 -- the two sectors of a tag that is open go into a slot's buffer
 module _ (source : ℕ → List ℕ) (tag : ℕ) (sectors : List ℕ) (long : length sectors ≡ PART_BYTES)
     (gives : source tag ≡ sectors)
-    (f : Fetching) (pool : Region) (whole : IsWhole pool) (of : IsOf f.lease pool)
+    (f : Fetching) (pool : Region) (whole : HasWholeBuffers pool) (of : IsOf f.lease pool)
     (room : length f.tags * PART_BYTES ≤ pool.room)
     (yet : is_open (state_of tag f) ≡ true) where
   within : (first_tag f ≤ tag) × (tag - first_tag f < length f.tags)
   within = open_within tag (first_tag f) f.tags yet
 
-  fits : (k : ℕ) → k < length f.tags → k * PART_BYTES + PART_BYTES ≤ length (bytes_of f.lease pool)
+  fits : (k : ℕ) → k < length f.tags → k * PART_BYTES + PART_BYTES ≤ length (leased_bytes f.lease pool)
   fits k below = omega (arith, room, length_bytes pool f.lease whole of, mul-le-mul_right PART_BYTES below)
 
-  full : length (with_part (tag - first_tag f) sectors (bytes_of f.lease pool)) ≡ pool.room
+  full : length (with_part (tag - first_tag f) sectors (leased_bytes f.lease pool)) ≡ pool.room
   full =
-      length_written PART_BYTES (tag - first_tag f) sectors (bytes_of f.lease pool) long
+      length_written PART_BYTES (tag - first_tag f) sectors (leased_bytes f.lease pool) long
       (fits (tag - first_tag f) within.1)
       ∙ length_bytes pool f.lease whole of
 
-  shown : bytes_of f.lease (with_sectors tag sectors f pool) ≡ with_part (tag - first_tag f) sectors
-      (bytes_of f.lease pool)
-  shown = own_bytes pool f.lease (with_part (tag - first_tag f) sectors (bytes_of f.lease pool)) whole of full
+  shown : leased_bytes f.lease (with_tag_sectors tag sectors f pool) ≡ with_part (tag - first_tag f) sectors
+      (leased_bytes f.lease pool)
+  shown = own_bytes pool f.lease (with_part (tag - first_tag f) sectors (leased_bytes f.lease pool)) whole of full
 
-  pub whole_after : IsWhole (with_sectors tag sectors f pool)
-  whole_after = whole_written pool f.lease (with_part (tag - first_tag f) sectors (bytes_of f.lease pool)) whole of full
+  pub whole_after : HasWholeBuffers (with_tag_sectors tag sectors f pool)
+  whole_after = whole_written pool f.lease (with_part (tag - first_tag f) sectors (leased_bytes f.lease pool)) whole of full
 
   -- the buffer holds them, and what it held
   pub own_holds : Holds source (Some f) pool → Holds source (Some (with_tag Answered tag f))
-      (with_sectors tag sectors f pool)
+      (with_tag_sectors tag sectors f pool)
   own_holds holds i is =
       let k = tag - first_tag f in
-      let b = bytes_of f.lease pool in
+      let b = leased_bytes f.lease pool in
       let same : first_tag (with_tag Answered tag f) ≡ first_tag f = ap (λ n. f.block * n)
       (length-set f.tags k Answered) in
       ap (part i) shown ∙ elim (cases_eq i k) [
@@ -87,10 +87,10 @@ module _ (source : ℕ → List ℕ) (tag : ℕ) (sectors : List ℕ) (long : le
       ]
 
   -- and another slot's buffer is as it was
-  pub other_holds : (g : Fetching) → g.lease.slot ≢ f.lease.slot → Holds source (Some g) pool
-      → Holds source (Some g) (with_sectors tag sectors f pool)
+  pub other_holds : (g : Fetching) → g.lease.buffer ≢ f.lease.buffer → Holds source (Some g) pool
+      → Holds source (Some g) (with_tag_sectors tag sectors f pool)
   other_holds g apart holds i is =
-      ap (part i) (others_bytes pool f.lease (with_part (tag - first_tag f) sectors (bytes_of f.lease pool))
+      ap (part i) (others_bytes pool f.lease (with_part (tag - first_tag f) sectors (leased_bytes f.lease pool))
       whole of full g.lease apart)
       ∙ holds i is
 
@@ -102,7 +102,7 @@ Ready (Some f) pool = IsOf f.lease pool × (length f.tags * PART_BYTES ≤ pool.
 abbrev Apart : Option Fetching → Option Fetching → Type 0
 Apart None t = Unit {0}
 Apart (Some f) None = Unit {0}
-Apart (Some f) (Some g) = g.lease.slot ≢ f.lease.slot
+Apart (Some f) (Some g) = g.lease.buffer ≢ f.lease.buffer
 
 apart_back : (s t : Option Fetching) → Apart s t → Apart t s
 apart_back None None apart = tt
@@ -122,14 +122,14 @@ ready_both (Some f) (Some g) pool are room_s room_t =
 
 module _ (source : ℕ → List ℕ) (tag : ℕ) (sectors : List ℕ) (long : length sectors ≡ PART_BYTES)
     (gives : source tag ≡ sectors) where
-  filled_holds : (o : Bool) (s : Option Fetching) (pool : Region) → is_open_in tag s ≡ o → IsWhole pool → Ready s pool
+  filled_holds : (o : Bool) (s : Option Fetching) (pool : Region) → is_open_in tag s ≡ o → HasWholeBuffers pool → Ready s pool
       → Holds source s pool → Holds source (slot_answered o tag s) (slot_filled o tag sectors s pool)
   filled_holds false s pool yet whole ready holds = holds
   filled_holds true None pool yet whole ready holds = tt
   filled_holds true (Some f) pool yet whole ready holds = own_holds source tag sectors long gives
       f pool whole ready.0 ready.1 yet holds
 
-  filled_other : (o : Bool) (s t : Option Fetching) (pool : Region) → is_open_in tag s ≡ o → IsWhole pool
+  filled_other : (o : Bool) (s t : Option Fetching) (pool : Region) → is_open_in tag s ≡ o → HasWholeBuffers pool
       → Ready s pool → Apart s t
       → Holds source t pool → Holds source t (slot_filled o tag sectors s pool)
   filled_other false s t pool yet whole ready apart holds = holds
@@ -138,8 +138,8 @@ module _ (source : ℕ → List ℕ) (tag : ℕ) (sectors : List ℕ) (long : le
   filled_other true (Some f) (Some g) pool yet whole ready apart holds =
       other_holds source tag sectors long gives f pool whole ready.0 ready.1 yet g apart holds
 
-  filled_whole : (o : Bool) (s : Option Fetching) (pool : Region) → is_open_in tag s ≡ o → IsWhole pool → Ready s pool
-      → IsWhole (slot_filled o tag sectors s pool)
+  filled_whole : (o : Bool) (s : Option Fetching) (pool : Region) → is_open_in tag s ≡ o → HasWholeBuffers pool → Ready s pool
+      → HasWholeBuffers (slot_filled o tag sectors s pool)
   filled_whole false s pool yet whole ready = whole
   filled_whole true None pool yet whole ready = whole
   filled_whole true (Some f) pool yet whole ready = whole_after source tag sectors long gives f
@@ -150,7 +150,7 @@ module _ (source : ℕ → List ℕ) (tag : ℕ) (sectors : List ℕ) (long : le
   filled_ready false s t pool ready = ready
   filled_ready true None t pool ready = ready
   filled_ready true (Some f) None pool ready = tt
-  filled_ready true (Some f) (Some g) pool ready = (record { block = ready.0.block; out = ready.0.out }, ready.1)
+  filled_ready true (Some f) (Some g) pool ready = (record { base = ready.0.base; out = ready.0.out }, ready.1)
 
   apart_answered : (o : Bool) (s t : Option Fetching) → Apart s t → Apart s (slot_answered o tag t)
   apart_answered false s t apart = apart
@@ -159,7 +159,7 @@ module _ (source : ℕ → List ℕ) (tag : ℕ) (sectors : List ℕ) (long : le
   apart_answered true (Some f) (Some g) apart = apart
 
   -- both buffers hold the tag's two sectors, where they awaited them, and what they held
-  pub both_hold : (c : Asking) (pool : Region) → IsWhole pool → AreOf (leases_of c) pool → HasRoom pool.room c.demand
+  pub both_hold : (c : Asking) (pool : Region) → HasWholeBuffers pool → AreOf (leases_of c) pool → HasRoom pool.room c.demand
       → HasRoom pool.room c.background → BothHold source c pool
       → BothHold source (heard (Took tag) c) (buffers_heard (Took tag) sectors c pool)
   both_hold c pool whole are room_d room_b holds =

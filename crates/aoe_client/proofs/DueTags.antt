@@ -2,7 +2,7 @@
 use Rattle.std.proofs.Common.{◌≡◌, ℕ, ◌+◌, cond, List, [], ◌∷◌, length, count_by, refl, arith}
 use Rattle.std.proofs.lemmas.List.Sums.{sum_by-cons}
 use Rattle.aoe_client.specs.declared.tags.TagState.{TagState}
-use Rattle.aoe_client.specs.declared.tags.TagState.TheVariants.{Due, Sent, Answered}
+use Rattle.aoe_client.specs.declared.tags.TagState.TheVariants.{Due, Unanswered, Answered}
 use Rattle.aoe_client.specs.Fetching.{due_from, is_due}
 
 -- the due tags are as many as there are tags that are due
@@ -14,9 +14,9 @@ length_due tag (Due ∷ tags) = omega (
   length_due
       (tag + 1) tags,
 )
-length_due tag (Sent ∷ tags) = omega (
+length_due tag (Unanswered ∷ tags) = omega (
   arith,
-  sum_by-cons (λ state. cond (is_due state) 1 0) Sent tags,
+  sum_by-cons (λ state. cond (is_due state) 1 0) Unanswered tags,
   length_due
       (tag + 1) tags,
 )

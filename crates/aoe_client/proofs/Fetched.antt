@@ -4,9 +4,9 @@ use Rattle.std.specs.Prelude.{IfSome}
 use Rattle.std.specs.List.{list_all}
 use Rattle.std.proofs.Math.Nat.{suc-mul}
 use Rattle.std.proofs.lemmas.List.{take-append-drop, take-take, drop-take}
-use Rattle.mon_pool.specs.Region.{Region, bytes_of}
+use Rattle.mon_pool.specs.Region.{Region, leased_bytes}
 use Rattle.aoe_client.specs.declared.tags.TagState.{TagState}
-use Rattle.aoe_client.specs.declared.tags.TagState.TheVariants.{Due, Sent, Answered}
+use Rattle.aoe_client.specs.declared.tags.TagState.TheVariants.{Due, Unanswered, Answered}
 use Rattle.aoe_client.specs.declared.tags.TheConstants.{PART_BYTES}
 use Rattle.aoe_client.specs.Fetching.{Fetching, is_answered, part}
 use Rattle.aoe_client.specs.Asking.{HasTags, done_in, tags_in}
@@ -31,7 +31,7 @@ all_get : (tags : List TagState) (i : ℕ) → list_all is_answered tags ≡ tru
     → slice_get tags i ≡ Some Answered
 all_get [] i all below = absurd (omega arith)
 all_get (Due ∷ tags) i all below = cc
-all_get (Sent ∷ tags) i all below = cc
+all_get (Unanswered ∷ tags) i all below = cc
 all_get (Answered ∷ tags) zero all below = refl
 all_get (Answered ∷ tags) (suc i) all below = all_get tags i all (omega arith)
 
@@ -41,7 +41,7 @@ fetched_where : (source : ℕ → List ℕ) (block : ℕ) (f : Fetching) (pool :
     → IfSome (cond all (Some (f.block, f.lease)) None) (IsFetched source (tags_in block) pool)
 fetched_where source block f pool false is count holds = tt
 fetched_where source block f pool true is count holds =
-    parts_given source (bytes_of f.lease pool) (f.block * tags_in block) (tags_in block) (λ i below.
+    parts_given source (leased_bytes f.lease pool) (f.block * tags_in block) (tags_in block) (λ i below.
     holds i (all_get f.tags i is (omega (arith, count))) ∙ ap (λ n. source (f.block * n + i)) count)
 
 -- what is handed over holds what the source gives for the block's tags

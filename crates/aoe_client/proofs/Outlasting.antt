@@ -5,15 +5,15 @@ use Rattle.std.proofs.Math.ListN.{length-set}
 use Rattle.std.proofs.lemmas.List.{length-map}
 use Rattle.mon_pool.specs.Region.{Held, Region}
 use Rattle.aoe_client.specs.declared.tags.TagState.{TagState}
-use Rattle.aoe_client.specs.declared.tags.TagState.TheVariants.{Due, Sent, Answered}
+use Rattle.aoe_client.specs.declared.tags.TagState.TheVariants.{Due, Unanswered, Answered}
 use Rattle.aoe_client.specs.declared.tags.TheConstants.{RESEND_AGE}
 use Rattle.aoe_client.specs.declared.client.Slot.{Slot}
 use Rattle.aoe_client.specs.declared.client.Slot.TheVariants.{Demand, Background}
-use Rattle.aoe_client.specs.Fetching.{Fetching, asked_for, due_again, first_tag, sent, ticked}
+use Rattle.aoe_client.specs.Fetching.{Fetching, asked_for, due_again, first_tag, tag_sent, ticked}
 use Rattle.aoe_client.specs.Asking.{Asking, first_due, then_sent, next_sent, both_ticked, with_slot}
 use Rattle.aoe_client.specs.Buffers.{BothHold, Holds}
 
-get_sent : (tags : List TagState) (k i : ℕ) → slice_get (slice_set tags k Sent) i ≡ Some Answered
+get_sent : (tags : List TagState) (k i : ℕ) → slice_get (slice_set tags k Unanswered) i ≡ Some Answered
     → slice_get tags i ≡ Some Answered
 get_sent [] k i is = is
 get_sent (x ∷ tags) zero zero is = cc
@@ -25,10 +25,10 @@ get_again : (tags : List TagState) (i : ℕ) → slice_get (map due_again tags) 
     → slice_get tags i ≡ Some Answered
 get_again [] i is = is
 get_again (Due ∷ tags) zero is = cc
-get_again (Sent ∷ tags) zero is = cc
+get_again (Unanswered ∷ tags) zero is = cc
 get_again (Answered ∷ tags) zero is = refl
 get_again (Due ∷ tags) (suc i) is = get_again tags i is
-get_again (Sent ∷ tags) (suc i) is = get_again tags i is
+get_again (Unanswered ∷ tags) (suc i) is = get_again tags i is
 get_again (Answered ∷ tags) (suc i) is = get_again tags i is
 
 get_due : (count i : ℕ) → slice_get (replicate count Due) i ≡ Some Answered → ⊥
@@ -38,12 +38,12 @@ get_due (suc count) (suc i) is = get_due count i is
 
 module _ (source : ℕ → List ℕ) (pool : Region) where
   sent_holds : (tag : Option ℕ) (s : Option Fetching) → Holds source s pool
-      → Holds source (option_map (sent tag) s) pool
+      → Holds source (option_map (tag_sent tag) s) pool
   sent_holds tag None holds = tt
   sent_holds None (Some f) holds = holds
   sent_holds (Some tag) (Some f) holds = λ i is.
       holds i (get_sent f.tags (tag - first_tag f) i is)
-      ∙ ap (λ n. source (f.block * n + i)) (sym (length-set f.tags (tag - first_tag f) Sent))
+      ∙ ap (λ n. source (f.block * n + i)) (sym (length-set f.tags (tag - first_tag f) Unanswered))
 
   again_holds : (f : Fetching) (old : Bool) → Holds source (Some f) pool
       → Holds source (Some (cond old (record f { age = 0; tags = map due_again f.tags })

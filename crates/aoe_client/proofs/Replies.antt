@@ -5,9 +5,9 @@ use Rattle.aoe_frame.specs.declared.message.Argument.TheVariants.{Ata, Config, O
 use Rattle.aoe_frame.specs.declared.message.TheConstants.{BODY_AT}
 use Rattle.aoe_frame.specs.Layout.{HasArgument}
 use Rattle.aoe_client.specs.declared.tags.TheConstants.{PART_BYTES}
-use Rattle.aoe_client.specs.Messages.{Answers, IsReadOf}
+use Rattle.aoe_client.specs.Messages.{Answers, IsReplyArgument}
 
-long : (bytes : List ℕ) (a : Argument) (tag : ℕ) → HasArgument (drop 24 bytes) a → IsReadOf a tag
+long : (bytes : List ℕ) (a : Argument) (tag : ℕ) → HasArgument (drop 24 bytes) a → IsReplyArgument a tag
     → BODY_AT + PART_BYTES ≤ length bytes
 long bytes (Ata a) tag has read =
     omega (arith, read.body, ap length has.2, length-drop 12 (drop 24 bytes), length-drop 24 bytes)

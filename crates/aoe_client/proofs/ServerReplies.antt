@@ -18,7 +18,7 @@ use Rattle.aoe_frame.specs.Reading.{IsReading}
 use Rattle.aoe_frame.proofs.Layouts.{length-header_bytes, same_little}
 use Rattle.image_server.specs.Request.{asked_in, is_heard, is_identify, is_read}
 use Rattle.image_server.specs.Reply.{ata_answer, configuration, refusal, reply, reply_to}
-use Rattle.aoe_client.specs.Messages.{Answers, IsReadOf, sectors_in}
+use Rattle.aoe_client.specs.Messages.{Answers, IsReplyArgument, sectors_carried}
 
 -- a request of 48-bit addresses doesn't ask what the server is
 identify_extended : (a : AtaPart) → a.flags ≡ EXTENDED → is_identify a ≡ false
@@ -63,7 +63,7 @@ kept_registers sectors image a = elim (cases_Bool (is_read a)) [
 
 module _ (sectors : ℕ) (image : List ℕ) (tag : ℕ) where
   nothing_read : (taken : Argument) (written : List ℕ) → length written < 12 → HasArgument written taken
-      → IsReadOf taken tag → ⊥
+      → IsReplyArgument taken tag → ⊥
   nothing_read (Ata t) written few has read = omega (arith, few, has.1)
   nothing_read (Config c) written few has read = read
   nothing_read Other written few has read = read
@@ -71,7 +71,7 @@ module _ (sectors : ℕ) (image : List ℕ) (tag : ℕ) where
   -- the sectors of an answer to a command, by what is read of it
   ata_sectors : (a : AtaPart) (taken : Argument) → AtaFits a → ArgumentFits taken
       → HasArgument (argument_written (Ata (ata_answer (asked_in sectors a) sectors image a))) taken
-      → IsReadOf taken tag
+      → IsReplyArgument taken tag
       → drop 12 (argument_written (Ata (ata_answer (asked_in sectors a) sectors image a))) ≡ bytes_at
       (1024 * tag) 1024 image
   ata_sectors a (Config c) fits fits_t has read = absurd read
@@ -93,7 +93,7 @@ module _ (sectors : ℕ) (image : List ℕ) (tag : ℕ) where
 
   -- of each message that the server replies with
   reply_sectors : (h : Header) (asked taken : Argument) → ArgumentFits asked → ArgumentFits taken
-      → HasArgument (argument_written (reply_to sectors image h asked).argument) taken → IsReadOf taken tag
+      → HasArgument (argument_written (reply_to sectors image h asked).argument) taken → IsReplyArgument taken tag
       → drop 12 (argument_written (reply_to sectors image h asked).argument) ≡ bytes_at (1024 * tag) 1024 image
   reply_sectors h (Ata a) taken fits fits_t has read = ata_sectors a taken fits fits_t has read
   reply_sectors h Other taken fits fits_t has read = absurd (nothing_read taken [] (omega arith) has read)
@@ -106,7 +106,7 @@ module _ (sectors : ℕ) (image : List ℕ) (tag : ℕ) where
   -- of each reading of a request
   read_sectors : (r : Result Aoe FrameFault) (asked : List ℕ) (m : Aoe) (taken : Argument) → IsReading asked r
       → reply sectors image r ≡ Some m
-      → ArgumentFits taken → HasArgument (argument_written m.argument) taken → IsReadOf taken tag
+      → ArgumentFits taken → HasArgument (argument_written m.argument) taken → IsReplyArgument taken tag
       → drop 12 (argument_written m.argument) ≡ bytes_at (1024 * tag) 1024 image
   read_sectors (Err Short) asked m taken reads is fits has read = cc
   read_sectors (Err NotAoe) asked m taken reads is fits has read = cc
@@ -142,7 +142,7 @@ module _ (sectors : ℕ) (image : List ℕ) (tag : ℕ) where
   -- a frame of the server that is taken for a tag has the tag's sectors of the image
   pub image_sectors : (r : Result Aoe FrameFault) (asked bytes : List ℕ) (m : Aoe) → IsReading asked r
       → reply sectors image r ≡ Some m
-      → bytes ≡ frame_of m → Answers bytes tag → sectors_in bytes ≡ bytes_at (1024 * tag) 1024 image
+      → bytes ≡ frame_of m → Answers bytes tag → sectors_carried bytes ≡ bytes_at (1024 * tag) 1024 image
   image_sectors r asked bytes m reads is frame taken =
       let size = sizes r asked m reads is in
       let behind : drop 24 bytes ≡ argument_written m.argument =

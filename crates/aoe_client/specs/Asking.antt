@@ -8,7 +8,7 @@ use Rattle.aoe_client.specs.declared.client.Heard.{Heard}
 use Rattle.aoe_client.specs.declared.client.Heard.TheVariants.{Took, Ignored}
 use Rattle.aoe_client.specs.declared.tags.TagState.TheVariants.{Answered}
 use Rattle.aoe_client.specs.declared.tags.TheConstants.{PART_BYTES, PART_SECTORS}
-use Rattle.aoe_client.specs.Fetching.{Fetching, due_of, is_answered, is_open, sent, state_of, ticked, with_sectors, with_tag}
+use Rattle.aoe_client.specs.Fetching.{Fetching, due_of, is_answered, is_open, tag_sent, state_of, ticked, with_tag_sectors, with_tag}
 
 -- the sectors of a block, and what each slot asks for (own)
 pub record Asking : Type 0 where
@@ -54,7 +54,7 @@ first_due f = slice_get (due_of f) 0
 
 -- a slot once its first due tag, where there is one, is sent
 abbrev pub slot_sent : Option Fetching → Option Fetching
-slot_sent f = option_map (sent (first_due f)) f
+slot_sent f = option_map (tag_sent (first_due f)) f
 
 -- Background once the next tag is sent: its own first one, where none of Demand's is due
 abbrev pub then_sent : Option ℕ → Option Fetching → Option Fetching
@@ -105,7 +105,7 @@ heard what c = record c {
 abbrev pub slot_filled : Bool → ℕ → List ℕ → Option Fetching → Region → Region
 slot_filled false tag sectors f pool = pool
 slot_filled true tag sectors None pool = pool
-slot_filled true tag sectors (Some f) pool = with_sectors tag sectors f pool
+slot_filled true tag sectors (Some f) pool = with_tag_sectors tag sectors f pool
 
 -- a pool once a frame was heard: the sectors of a tag that was taken are in each buffer in which it was open
 abbrev pub buffers_heard : Heard → List ℕ → Asking → Region → Region

@@ -1,8 +1,8 @@
 -- What one slot of the client asks for, and what each event does to it.
 use Rattle.std.specs.Prelude.{ℕ, ◌+◌, ◌-◌, ◌*◌, ◌==◌, nat_lt, Bool, true, false, List, [], ◌∷◌, length, take, drop, map, replicate, slice_get, slice_set, Option, Some, None, if◌then◌else◌}
-use Rattle.mon_pool.specs.Region.{Held, Region, bytes_of, with_bytes, written_at}
+use Rattle.mon_pool.specs.Region.{Held, Region, leased_bytes, with_bytes, written_over}
 use Rattle.aoe_client.specs.declared.tags.TagState.{TagState}
-use Rattle.aoe_client.specs.declared.tags.TagState.TheVariants.{Due, Sent, Answered}
+use Rattle.aoe_client.specs.declared.tags.TagState.TheVariants.{Due, Unanswered, Answered}
 use Rattle.aoe_client.specs.declared.tags.TheConstants.{PART_BYTES, RESEND_AGE}
 
 -- a block that is asked for: the lease of its buffer, its number, its age in ticks, and where each of its tags stands
@@ -25,20 +25,20 @@ asked_for count block lease =
 -- whether a tag is due
 abbrev pub is_due : TagState → Bool
 is_due Due = true
-is_due Sent = false
+is_due Unanswered = false
 is_due Answered = false
 
 -- whether a tag is answered
 abbrev pub is_answered : TagState → Bool
 is_answered Due = false
-is_answered Sent = false
+is_answered Unanswered = false
 is_answered Answered = true
 
 -- the due ones of these tags, whose first is this one, in rising order
 abbrev pub due_from : ℕ → List TagState → List ℕ
 due_from tag [] = []
 due_from tag (Due ∷ tags) = tag ∷ due_from (tag + 1) tags
-due_from tag (Sent ∷ tags) = due_from (tag + 1) tags
+due_from tag (Unanswered ∷ tags) = due_from (tag + 1) tags
 due_from tag (Answered ∷ tags) = due_from (tag + 1) tags
 
 -- the due tags of a slot
@@ -51,14 +51,14 @@ abbrev pub with_tag : TagState → ℕ → Fetching → Fetching
 with_tag state tag f = record f { tags = slice_set f.tags (tag - first_tag f) state }
 
 -- a due tag, where there is one, is sent
-abbrev pub sent : Option ℕ → Fetching → Fetching
-sent None f = f
-sent (Some tag) f = with_tag Sent tag f
+abbrev pub tag_sent : Option ℕ → Fetching → Fetching
+tag_sent None f = f
+tag_sent (Some tag) f = with_tag Unanswered tag f
 
 -- a tag that is unanswered is due again
 abbrev pub due_again : TagState → TagState
 due_again Due = Due
-due_again Sent = Due
+due_again Unanswered = Due
 due_again Answered = Answered
 
 -- a tick: at the fourth all unanswered tags are due again, and the age is 0 (own)
@@ -75,7 +75,7 @@ state_of tag f = if nat_lt tag (first_tag f) then None else slice_get f.tags (ta
 abbrev pub is_open : Option TagState → Bool
 is_open None = false
 is_open (Some Due) = true
-is_open (Some Sent) = true
+is_open (Some Unanswered) = true
 is_open (Some Answered) = false
 
 -- the two sectors of a block's i-th tag, in the block's bytes
@@ -84,9 +84,9 @@ part i bytes = take PART_BYTES (drop (i * PART_BYTES) bytes)
 
 -- the same bytes, but with this part
 abbrev pub with_part : ℕ → List ℕ → List ℕ → List ℕ
-with_part i sectors bytes = written_at (i * PART_BYTES) sectors bytes
+with_part i sectors bytes = written_over (i * PART_BYTES) sectors bytes
 
 -- a pool once a tag's two sectors are in the buffer
-abbrev pub with_sectors : ℕ → List ℕ → Fetching → Region → Region
-with_sectors tag sectors f pool =
-    with_bytes f.lease pool (with_part (tag - first_tag f) sectors (bytes_of f.lease pool))
+abbrev pub with_tag_sectors : ℕ → List ℕ → Fetching → Region → Region
+with_tag_sectors tag sectors f pool =
+    with_bytes f.lease pool (with_part (tag - first_tag f) sectors (leased_bytes f.lease pool))

@@ -1,6 +1,6 @@
 -- The request for a tag, and what a frame has to say to be taken as its reply.
 use Rattle.std.specs.Prelude.{ℕ, ◌≡◌, ◌≢◌, ◌≤◌, ◌*◌, bit_and, List, [], length, take, drop}
-use Rattle.aoe_frame.specs.declared.addresses.TheConstants.{CLIENT, SERVER, SHELF, SLOT}
+use Rattle.aoe_frame.specs.declared.addresses.TheConstants.{CLIENT, SERVER, MAJOR, MINOR}
 use Rattle.aoe_frame.specs.declared.message.TheConstants.{ATA, BODY_AT, EXTENDED, FAILED, REPLY, VERSION}
 use Rattle.aoe_frame.specs.declared.message.Header.{Header}
 use Rattle.aoe_frame.specs.declared.message.AtaPart.{AtaPart}
@@ -26,8 +26,8 @@ request_for tag = record {
     version = VERSION;
     flags = 0;
     error = 0;
-    major = SHELF;
-    minor = SLOT;
+    major = MAJOR;
+    minor = MINOR;
     command = ATA;
     tag = tag;
   };
@@ -46,18 +46,18 @@ abbrev pub request_frame : ℕ → List ℕ
 request_frame tag = frame_of (request_for tag)
 
 -- a header is of a reply that didn't fail, from the server to the client, to an ATA command (AoE r11, common header)
-pub record IsReply (h : Header) : Type 0 where
+pub record IsReplyHeader (h : Header) : Type 0 where
   pub dest : h.dest ≡ CLIENT
   pub source : h.source ≡ SERVER
-  pub major : h.major ≡ SHELF
-  pub minor : h.minor ≡ SLOT
+  pub major : h.major ≡ MAJOR
+  pub minor : h.minor ≡ MINOR
   pub reply : bit_and h.flags REPLY ≢ 0
   pub well : bit_and h.flags FAILED ≡ 0
   pub command : h.command ≡ ATA
 
 -- an ATA argument answers the request for a tag: its registers are that request's, its status is that of a command that
 -- was done, and its body has the two sectors (own: longer bodies too)
-pub record IsRead (a : AtaPart) (tag : ℕ) : Type 0 where
+pub record IsReplyPart (a : AtaPart) (tag : ℕ) : Type 0 where
   pub flags : a.flags ≡ EXTENDED
   pub count : a.count ≡ PART_SECTORS
   pub status : a.command ≡ GOOD_STATUS
@@ -65,21 +65,21 @@ pub record IsRead (a : AtaPart) (tag : ℕ) : Type 0 where
   pub body : PART_BYTES ≤ length a.body
 
 -- the same of any argument: none but an ATA argument answers
-abbrev pub IsReadOf : Argument → ℕ → Type 0
-IsReadOf (Ata a) tag = IsRead a tag
-IsReadOf (Config c) tag = ⊥
-IsReadOf Other tag = ⊥
+abbrev pub IsReplyArgument : Argument → ℕ → Type 0
+IsReplyArgument (Ata a) tag = IsReplyPart a tag
+IsReplyArgument (Config c) tag = ⊥
+IsReplyArgument Other tag = ⊥
 
 -- a message answers a tag
 pub record IsAnswer (m : Aoe) (tag : ℕ) : Type 0 where
-  pub header : IsReply m.header
+  pub header : IsReplyHeader m.header
   pub same : m.header.tag ≡ tag
-  pub argument : IsReadOf m.argument tag
+  pub argument : IsReplyArgument m.argument tag
 
 -- a frame answers a tag: it says a message that does
 abbrev pub Answers : List ℕ → ℕ → Type 0
 Answers frame tag = (m : Aoe) × (IsMessage frame m × IsAnswer m tag)
 
 -- the two sectors of a frame that answers a tag: the first bytes of its body
-abbrev pub sectors_in : List ℕ → List ℕ
-sectors_in frame = take PART_BYTES (drop BODY_AT frame)
+abbrev pub sectors_carried : List ℕ → List ℕ
+sectors_carried frame = take PART_BYTES (drop BODY_AT frame)

@@ -4,9 +4,9 @@ ghost use Rattle.std.specs.Prelude.{◌≡◌, ◌+◌, ◌*◌, ◌<◌, ◌≤
 ghost use Rattle.mon_pool.specs.Region.{AreOf, Region, all_given};
 ghost use Rattle.fill_bitmap.specs.Area.{IsBlock};
 ghost use Rattle.aoe_client.specs.Asking.{Asking, both_ticked, buffers_heard, done_in, due_tags, heard, in_slot, is_awaited, leases_of, next_sent, nothing_asked, tags_in, with_slot};
-ghost use Rattle.aoe_client.specs.Buffers.{BothHold, Gives, Holds, IsFetched};
+ghost use Rattle.aoe_client.specs.Buffers.{BothHold, SourceGives, Holds, IsFetched};
 ghost use Rattle.aoe_client.specs.Fetching.{asked_for};
-ghost use Rattle.aoe_client.specs.Messages.{Answers, request_frame, sectors_in};
+ghost use Rattle.aoe_client.specs.Messages.{Answers, request_frame, sectors_carried};
 
 use crate::fetch::Fetch;
 use crate::messages::{answered_by, request};
@@ -141,8 +141,8 @@ impl Client {
         ensures took { (tag : ℕ) → (result ≡ Heard.Took tag)
             ↔ (Answers frame.now tag × (is_awaited tag self.old ≡ true)) }
         ensures after { self.new ≡ heard result self.old }
-        ensures buffers { pool.new ≡ buffers_heard result (sectors_in frame.now) self.old pool.old }
-        ensures kept { (source : ℕ → List ℕ) → Gives source (sectors_in frame.now) result →
+        ensures buffers { pool.new ≡ buffers_heard result (sectors_carried frame.now) self.old pool.old }
+        ensures kept { (source : ℕ → List ℕ) → SourceGives source (sectors_carried frame.now) result →
             BothHold source self.old pool.old → BothHold source self.new pool.new }
         ensures held { AreOf (leases_of self.new) pool.new }
         ensures rest { pool.new ≡ record pool.old { block = pool.new.block } }

@@ -3,7 +3,7 @@
 ghost use Rattle.std.specs.Prelude.{◌≡◌, ◌+◌, ◌*◌, ◌<◌, ◌≤◌, ◌^◌, ◌-◌, IfSome, is_some, length, slice_get, if◌then◌else◌};
 ghost use Rattle.std.specs.List.{list_all};
 ghost use Rattle.mon_pool.specs.Region.{IsOf};
-ghost use Rattle.aoe_client.specs.Fetching.{Fetching, asked_for, due_from, first_tag, is_answered, is_open, sent, state_of, ticked, with_part, with_sectors, with_tag};
+ghost use Rattle.aoe_client.specs.Fetching.{Fetching, asked_for, due_from, first_tag, is_answered, is_open, tag_sent, state_of, ticked, with_part, with_tag_sectors, with_tag};
 
 use crate::tags::{PART_BYTES, RESEND_AGE, TagState, all_answered, count_due, make_due, nth_due};
 use arrayvec::ArrayVec;
@@ -95,11 +95,11 @@ impl Fetch {
     // The first due tag, which is sent thereby.
     pub(crate) fn send(&mut self) -> Option<u32>
         ensures tag { result ≡ slice_get (due_from (first_tag self.old) self.old.tags) 0 }
-        ensures after { self.new ≡ sent result self.old }
+        ensures after { self.new ≡ tag_sent result self.old }
     {
         let first = self.first();
         let tag = nth_due(first, self.tags.as_slice(), 0)?;
-        self.tags[(tag - first) as usize] = TagState::Sent;
+        self.tags[(tag - first) as usize] = TagState::Unanswered;
         Some(tag)
     }
 
@@ -128,7 +128,7 @@ impl Fetch {
         ensures after { self.new
             ≡ (if result then with_tag TagState.Answered tag self.old else self.old) }
         ensures pool { pool.new
-            ≡ (if result then with_sectors tag sectors.now self.old pool.old else pool.old) }
+            ≡ (if result then with_tag_sectors tag sectors.now self.old pool.old else pool.old) }
     {
         let Some(place) = self.open_place(tag) else {
             return false;
@@ -146,7 +146,7 @@ impl Fetch {
     {
         let place = tag.checked_sub(self.first())? as usize;
         match self.tags.get(place)? {
-            TagState::Due | TagState::Sent => Some(place),
+            TagState::Due | TagState::Unanswered => Some(place),
             TagState::Answered => None,
         }
     }

@@ -13,7 +13,7 @@ ghost use Rattle.aoe_client.specs.declared.client.Slot.{Slot as SlotOf};
 ghost use Rattle.aoe_client.specs.Asking.{Asking, both_ticked, next_sent, with_slot};
 ghost use Rattle.aoe_client.specs.Buffers.{BothHold};
 ghost use Rattle.aoe_client.specs.Fetching.{asked_for};
-ghost use Rattle.aoe_client.specs.Messages.{Answers, sectors_in};
+ghost use Rattle.aoe_client.specs.Messages.{Answers, sectors_carried};
 
 use crate::PART_BYTES;
 
@@ -37,5 +37,5 @@ pub fn the_servers_sectors_are_the_images()
     ensures { (sectors : ℕ) (image : List ℕ) (tag : ℕ) (r : Result AoeOf FaultOf)
         (asked bytes : List ℕ) (m : AoeOf) → IsReading asked r → reply sectors image r ≡ Some m →
         bytes ≡ frame_of m → Answers bytes tag →
-        sectors_in bytes ≡ bytes_at (PART_BYTES * tag) PART_BYTES image }
+        sectors_carried bytes ≡ bytes_at (PART_BYTES * tag) PART_BYTES image }
 {}

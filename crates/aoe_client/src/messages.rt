@@ -1,12 +1,12 @@
 //! The request for a tag, and the reply to it.
 
 ghost use Rattle.std.specs.Prelude.{◌≡◌, ◌≤◌, ◌+◌, ◌*◌, ◌↔◌, ℕ, IsTrue, Some, length};
-ghost use Rattle.aoe_client.specs.Messages.{Answers, IsAnswer, IsRead, IsReply, first_sector, request_frame};
+ghost use Rattle.aoe_client.specs.Messages.{Answers, IsAnswer, IsReplyPart, IsReplyHeader, first_sector, request_frame};
 
 use crate::tags::{PART_BYTES, PART_SECTORS};
 use aoe_frame::{
     ATA, Aoe, Argument, AtaPart, BODY_AT, Bytes, CLIENT, EXTENDED, FAILED, Frame, Header, REPLY,
-    SERVER, SHELF, SLOT, VERSION, parse, write,
+    SERVER, MAJOR, MINOR, VERSION, parse, write,
 };
 use image_server::{GOOD_STATUS, READ_EXTENDED};
 
@@ -21,8 +21,8 @@ pub(crate) fn request(tag: u32) -> Frame
             version: VERSION,
             flags: 0,
             error: 0,
-            major: SHELF,
-            minor: SLOT,
+            major: MAJOR,
+            minor: MINOR,
             command: ATA,
             tag,
         },
@@ -70,19 +70,19 @@ fn tag_of(message: &Aoe) -> Option<u32>
 }
 
 fn is_reply(header: &Header) -> bool
-    ensures { IsTrue result ↔ IsReply header.now }
+    ensures { IsTrue result ↔ IsReplyHeader header.now }
 {
     header.dest == CLIENT
         && header.source == SERVER
-        && header.major == SHELF
-        && header.minor == SLOT
+        && header.major == MAJOR
+        && header.minor == MINOR
         && header.flags & REPLY != 0
         && header.flags & FAILED == 0
         && header.command == ATA
 }
 
 fn is_read(part: &AtaPart, tag: u32) -> bool
-    ensures { IsTrue result ↔ IsRead part.now tag }
+    ensures { IsTrue result ↔ IsReplyPart part.now tag }
 {
     part.flags == EXTENDED
         && part.count == PART_SECTORS

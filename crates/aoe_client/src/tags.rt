@@ -20,7 +20,7 @@ pub enum TagState {
     #[default]
     Due,
     /// Its request was sent, and no reply was taken.
-    Sent,
+    Unanswered,
     /// A reply was taken.
     Answered,
 }
@@ -37,7 +37,7 @@ pub(crate) fn nth_due(first: u32, tags: &[TagState], k: usize) -> Option<u32>
         match state {
             TagState::Due if left == 0 => return Some(tag),
             TagState::Due => left -= 1,
-            TagState::Sent | TagState::Answered => {}
+            TagState::Unanswered | TagState::Answered => {}
         }
         tag += 1;
     }
@@ -66,7 +66,7 @@ impl TagState {
         ensures { result ≡ due_again self }
     {
         match self {
-            TagState::Due | TagState::Sent => TagState::Due,
+            TagState::Due | TagState::Unanswered => TagState::Due,
             TagState::Answered => TagState::Answered,
         }
     }

@@ -10,7 +10,7 @@ use Rattle.aoe_frame.specs.declared.message.ConfigPart.{ConfigPart}
 use Rattle.aoe_frame.specs.declared.message.Argument.{Argument}
 use Rattle.aoe_frame.specs.declared.message.Argument.TheVariants.{Ata, Config, Other}
 use Rattle.aoe_frame.specs.declared.message.Aoe.{Aoe}
-use Rattle.aoe_frame.specs.Layout.{halves, header_bytes, ata_bytes, config_bytes, HeaderFits, AtaFits, ConfigFits, ArgumentFits, IsOf, HasHeader, HasArgument, Says}
+use Rattle.aoe_frame.specs.Layout.{halves, header_bytes, ata_bytes, config_bytes, HeaderFits, AtaFits, ConfigFits, ArgumentFits, IsArgumentOf, HasFrameHeader, HasArgument, SaysMessage}
 use Rattle.aoe_frame.specs.Reading.{IsAoe, bytes_needed}
 
 -- two lists with fronts of one length
@@ -109,7 +109,7 @@ same_config a b fits_a fits_b e =
     }
 
 -- one argument stands in front of bytes, for a command
-same_argument : (bytes : List ℕ) (command : ℕ) (a b : Argument) → IsOf command a → IsOf command b
+same_argument : (bytes : List ℕ) (command : ℕ) (a b : Argument) → IsArgumentOf command a → IsArgumentOf command b
     → HasArgument bytes a → HasArgument bytes b
     → ArgumentFits a → ArgumentFits b → a ≡ b
 same_argument bytes command (Ata a) (Ata b) of_a of_b has_a has_b fits_a fits_b =
@@ -125,14 +125,14 @@ same_argument bytes command Other (Config b) of_a of_b has_a has_b fits_a fits_b
 same_argument bytes command Other Other of_a of_b has_a has_b fits_a fits_b = refl
 
 -- one header stands in front of bytes
-pub one_header : (bytes : List ℕ) (a b : Header) → HasHeader bytes a → HasHeader bytes b → a ≡ b
+pub one_header : (bytes : List ℕ) (a b : Header) → HasFrameHeader bytes a → HasFrameHeader bytes b → a ≡ b
 one_header bytes a b has_a has_b = same_header a b has_a.fits has_b.fits (sym has_a.laid ∙ has_b.laid)
 
 -- bytes say one message
-pub one_message : (bytes : List ℕ) (a b : Aoe) → Says bytes a → Says bytes b → a ≡ b
+pub one_message : (bytes : List ℕ) (a b : Aoe) → SaysMessage bytes a → SaysMessage bytes b → a ≡ b
 one_message bytes a b says_a says_b =
     let headers = one_header bytes a.header b.header says_a.header says_b.header in
-    let of_b : IsOf a.header.command b.argument = subst (λ (h : Header). IsOf h.command b.argument)
+    let of_b : IsArgumentOf a.header.command b.argument = subst (λ (h : Header). IsArgumentOf h.command b.argument)
     (sym headers) says_b.kind in
     let arguments = same_argument (drop 24 bytes) a.header.command a.argument b.argument says_a.kind of_b
     says_a.argument says_b.argument says_a.fits says_b.fits in
@@ -143,7 +143,7 @@ pub length-header_bytes : (h : Header) → length h.dest ≡ 6 → length h.sour
 length-header_bytes h dest source = simp (length-append, dest, source)
 
 -- bytes with a header are as many as it has
-pub header_long : (bytes : List ℕ) (h : Header) → HasHeader bytes h → 24 ≤ length bytes
+pub header_long : (bytes : List ℕ) (h : Header) → HasFrameHeader bytes h → 24 ≤ length bytes
 header_long bytes h has = omega (
   arith,
   ap length has.laid,
@@ -158,7 +158,7 @@ take_fewer (x ∷ []) = refl
 take_fewer (x ∷ (y ∷ xs)) = refl
 
 -- the type stands behind the two addresses
-pub header_type : (bytes : List ℕ) (h : Header) → HasHeader bytes h → IsAoe bytes
+pub header_type : (bytes : List ℕ) (h : Header) → HasFrameHeader bytes h → IsAoe bytes
 unfolding behind
 header_type bytes h has =
     let left : drop 12 (take 24 bytes) ≡ take 12 (drop 12 bytes) = drop-take 12 12 bytes in
@@ -170,7 +170,7 @@ header_type bytes h has =
     sym (take_fewer (drop 12 bytes)) ∙ ap (take 2) (sym left ∙ ap (drop 12) has.laid ∙ right)
 
 -- bytes behind a header that have an argument are as many as it needs
-pub argument_long : (bytes : List ℕ) (command : ℕ) (a : Argument) → IsOf command a → HasArgument bytes a
+pub argument_long : (bytes : List ℕ) (command : ℕ) (a : Argument) → IsArgumentOf command a → HasArgument bytes a
     → bytes_needed command ≤ 24 + length bytes
 argument_long bytes command (Ata a) of has = rw of (omega (arith, has.1))
 argument_long bytes command (Config c) of has = rw of (omega (arith, ap length has, length-take 8 bytes))

@@ -6,13 +6,13 @@ use Rattle.aoe_frame.specs.declared.message.Argument.{Argument}
 use Rattle.aoe_frame.specs.declared.message.Aoe.{Aoe}
 use Rattle.aoe_frame.specs.declared.message.FrameFault.{FrameFault}
 use Rattle.aoe_frame.specs.declared.message.FrameFault.TheVariants.{Short, NotAoe, Version}
-use Rattle.aoe_frame.specs.Layout.{HasHeader, HasArgument, ArgumentFits, IsOf, Says}
+use Rattle.aoe_frame.specs.Layout.{HasFrameHeader, HasArgument, ArgumentFits, IsArgumentOf, SaysMessage}
 use Rattle.aoe_frame.specs.Reading.{IsReading, IsMessage, IsOfOtherType, IsShort, bytes_needed}
 use Rattle.aoe_frame.specs.Reading.IsShort.{BeforeType, InHeader, InArgument}
 use Rattle.aoe_frame.proofs.Layouts.{one_header, one_message, header_long, header_type, argument_long}
 
 -- bytes with a header whose argument isn't cut aren't too short
-not_short : (bytes : List ℕ) (h : Header) → HasHeader bytes h
+not_short : (bytes : List ℕ) (h : Header) → HasFrameHeader bytes h
     → (h.version ≡ VERSION → bytes_needed h.command ≤ length bytes)
     → IsShort bytes → ⊥
 not_short bytes h has whole (BeforeType below) = let long = header_long bytes h has in omega arith
@@ -25,7 +25,7 @@ not_short bytes h has whole (InArgument cut has_cut version below) =
     let few : length bytes < bytes_needed h.command = subst (λ (n : ℕ). length bytes < bytes_needed n) commands below in
     omega arith
 
-message_long : (bytes : List ℕ) (m : Aoe) → Says bytes m → bytes_needed m.header.command ≤ length bytes
+message_long : (bytes : List ℕ) (m : Aoe) → SaysMessage bytes m → bytes_needed m.header.command ≤ length bytes
 message_long bytes m says =
     let long = header_long bytes m.header says.header in
     let behind = argument_long (drop 24 bytes) m.header.command m.argument says.kind says.argument in
@@ -71,8 +71,8 @@ pub reads_exactly : (bytes : List ℕ) (answer a : Result Aoe FrameFault) → Is
 reads_exactly bytes answer a reads = (λ is. subst (IsReading bytes) is reads, one_reading bytes answer a reads)
 
 -- a header and an argument are a message
-pub read_whole : (bytes : List ℕ) (h : Header) (a : Argument) → HasHeader bytes h → h.version ≡ VERSION
-    → IsOf h.command a × HasArgument (drop 24 bytes) a × ArgumentFits a
+pub read_whole : (bytes : List ℕ) (h : Header) (a : Argument) → HasFrameHeader bytes h → h.version ≡ VERSION
+    → IsArgumentOf h.command a × HasArgument (drop 24 bytes) a × ArgumentFits a
     → IsMessage bytes (record { header = h; argument = a })
 read_whole bytes h a has spoken parts = record {
   says = record { header = has; kind = parts.0; argument = parts.1; fits = parts.2 };
@@ -80,6 +80,6 @@ read_whole bytes h a has spoken parts = record {
 }
 
 -- a header with a part of its argument is too short
-pub read_cut : (bytes : List ℕ) (h : Header) → HasHeader bytes h → h.version ≡ VERSION
+pub read_cut : (bytes : List ℕ) (h : Header) → HasFrameHeader bytes h → h.version ≡ VERSION
     → 24 + length (drop 24 bytes) < bytes_needed h.command → IsShort bytes
 read_cut bytes h has spoken few = InArgument h has spoken (omega (arith, length-drop 24 bytes))

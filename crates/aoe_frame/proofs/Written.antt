@@ -5,7 +5,7 @@ use Rattle.aoe_frame.specs.declared.message.TheConstants.{VERSION}
 use Rattle.aoe_frame.specs.declared.message.Argument.{Argument}
 use Rattle.aoe_frame.specs.declared.message.Argument.TheVariants.{Ata, Config, Other}
 use Rattle.aoe_frame.specs.declared.message.Aoe.{Aoe}
-use Rattle.aoe_frame.specs.Layout.{Fits, HasArgument, IsOf, Says, argument_written, frame_of, header_bytes}
+use Rattle.aoe_frame.specs.Layout.{Fits, HasArgument, IsArgumentOf, SaysMessage, argument_written, frame_of, header_bytes}
 use Rattle.aoe_frame.specs.Reading.{IsReading}
 use Rattle.aoe_frame.proofs.Layouts.{header_long, length-header_bytes}
 
@@ -15,7 +15,7 @@ argument_says (Config c) = refl
 argument_says Other = tt
 
 -- a frame that is written says its message
-pub written_says : (m : Aoe) → Fits m → IsOf m.header.command m.argument → Says (frame_of m) m
+pub written_says : (m : Aoe) → Fits m → IsArgumentOf m.header.command m.argument → SaysMessage (frame_of m) m
 written_says m fits of =
     let long = length-header_bytes m.header fits.header.dest fits.header.source in
     let front = take_at (header_bytes m.header) (argument_written m.argument) 24 long in
@@ -28,7 +28,7 @@ written_says m fits of =
     }
 
 -- and is read so
-pub written_reads : (m : Aoe) → Fits m → IsOf m.header.command m.argument → m.header.version ≡ VERSION
+pub written_reads : (m : Aoe) → Fits m → IsArgumentOf m.header.command m.argument → m.header.version ≡ VERSION
     → IsReading (frame_of m) (Ok m)
 written_reads m fits of version = record { says = written_says m fits of; version = version }
 
@@ -38,7 +38,7 @@ shortest_argument bytes (Config c) has = omega (arith, ap length has, length-tak
 shortest_argument bytes Other has = omega arith
 
 -- no bytes of a message are fewer than those that are written
-pub written_shortest : (bytes : List ℕ) (m : Aoe) → Says bytes m → length (frame_of m) ≤ length bytes
+pub written_shortest : (bytes : List ℕ) (m : Aoe) → SaysMessage bytes m → length (frame_of m) ≤ length bytes
 written_shortest bytes m says =
     let long = header_long bytes m.header says.header in
     let header = length-header_bytes m.header says.header.fits.dest says.header.fits.source in

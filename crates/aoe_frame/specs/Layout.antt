@@ -2,7 +2,7 @@
 -- address.
 use Rattle.std.specs.Prelude.{ℕ, ◌≡◌, ◌≢◌, ◌<◌, ◌≤◌, ◌+◌, ◌*◌, ◌^◌, List, [], ◌∷◌, ◌++◌, length, take, drop, ⊤}
 use Rattle.byteorder.specs.Endian.{big_bytes, little_bytes}
-use Rattle.aoe_frame.specs.declared.message.TheConstants.{ETHER_TYPE, ATA, CONFIG}
+use Rattle.aoe_frame.specs.declared.message.TheConstants.{ETHER_TYPE, ATA, CONFIG, HEADER_BYTES, ATA_BYTES, CONFIG_BYTES}
 use Rattle.aoe_frame.specs.declared.message.Header.{Header}
 use Rattle.aoe_frame.specs.declared.message.AtaPart.{AtaPart}
 use Rattle.aoe_frame.specs.declared.message.ConfigPart.{ConfigPart}
@@ -14,7 +14,7 @@ use Rattle.aoe_frame.specs.declared.message.Aoe.{Aoe}
 abbrev pub halves : ℕ → ℕ → ℕ
 halves high low = 16 * high + low
 
--- the 24 bytes of a header, from the destination to the tag (AoE r11, common header)
+-- the bytes of a header, from the destination to the tag (AoE r11, common header)
 abbrev pub header_bytes : Header → List ℕ
 header_bytes h =
     -- 0 and 6: destination and source
@@ -23,9 +23,9 @@ header_bytes h =
     ++ big_bytes 2 ETHER_TYPE
     -- 14 and 15: version and flags; error
     ++ halves h.version h.flags ∷ h.error ∷ []
-    -- 16: shelf
+    -- 16: major address
     ++ big_bytes 2 h.major
-    -- 18 and 19: slot; command
+    -- 18 and 19: minor address; command
     ++ h.minor ∷ h.command ∷ []
     -- 20: tag
     ++ big_bytes 4 h.tag
@@ -39,7 +39,7 @@ ata_bytes a =
     -- 28: lba0 to lba5
     ++ little_bytes 6 a.lba
 
--- the 8 bytes of a configuration argument before its string (AoE r11, Query Config Information)
+-- the bytes of a configuration argument before its string (AoE r11, Query Config Information)
 abbrev pub config_bytes : ConfigPart → List ℕ
 config_bytes c =
     -- 24 and 26: buffer count; firmware version
@@ -90,10 +90,10 @@ pub record Fits (m : Aoe) : Type 0 where
   pub argument : ArgumentFits m.argument
 
 -- an argument is the one that the command takes
-abbrev pub IsOf : ℕ → Argument → Type 0
-IsOf command (Ata a) = command ≡ ATA
-IsOf command (Config c) = command ≡ CONFIG
-IsOf command Other = (command ≢ ATA) × (command ≢ CONFIG)
+abbrev pub IsArgumentOf : ℕ → Argument → Type 0
+IsArgumentOf command (Ata a) = command ≡ ATA
+IsArgumentOf command (Config c) = command ≡ CONFIG
+IsArgumentOf command Other = (command ≢ ATA) × (command ≢ CONFIG)
 
 -- an argument may be written beside a command: it is the one that the command takes, or no bytes
 abbrev pub IsWritable : ℕ → Argument → Type 0
@@ -102,23 +102,23 @@ IsWritable command (Config c) = command ≡ CONFIG
 IsWritable command Other = ⊤
 
 -- a header stands in front of these bytes
-pub record HasHeader (bytes : List ℕ) (h : Header) : Type 0 where
-  pub laid : take 24 bytes ≡ header_bytes h
+pub record HasFrameHeader (bytes : List ℕ) (h : Header) : Type 0 where
+  pub laid : take HEADER_BYTES bytes ≡ header_bytes h
   pub fits : HeaderFits h
 
 -- an argument stands in front of these bytes. Behind an ATA argument come two reserved bytes, and the rest is its body;
 -- what comes behind another means nothing
 abbrev pub HasArgument : List ℕ → Argument → Type 0
 HasArgument bytes (Ata a) =
-    (take 10 bytes ≡ ata_bytes a) × (12 ≤ length bytes) × (drop 12 bytes ≡ a.body)
-HasArgument bytes (Config c) = take 8 bytes ≡ config_bytes c
+    (take 10 bytes ≡ ata_bytes a) × (ATA_BYTES ≤ length bytes) × (drop ATA_BYTES bytes ≡ a.body)
+HasArgument bytes (Config c) = take CONFIG_BYTES bytes ≡ config_bytes c
 HasArgument bytes Other = ⊤
 
 -- the bytes say a message, of whatever version (AoE r11)
-pub record Says (bytes : List ℕ) (m : Aoe) : Type 0 where
-  pub header : HasHeader bytes m.header
-  pub kind : IsOf m.header.command m.argument
-  pub argument : HasArgument (drop 24 bytes) m.argument
+pub record SaysMessage (bytes : List ℕ) (m : Aoe) : Type 0 where
+  pub header : HasFrameHeader bytes m.header
+  pub kind : IsArgumentOf m.header.command m.argument
+  pub argument : HasArgument (drop HEADER_BYTES bytes) m.argument
   pub fits : ArgumentFits m.argument
 
 -- the bytes of an argument as they are written: the reserved ones are 0, and nothing stands behind

@@ -44,8 +44,9 @@ impl Frame {
     pub(crate) fn of(bytes: FrameBytes) -> Frame
         ensures frame { result ≡ bytes.items }
     {
-        // This call's clause says that they are at most `MOST_BYTES`.
-        let _few = bytes.len();
+        // A frame has at most `MOST_BYTES` bytes. A clause of `len` says so of any array of this type; its answer isn't
+        // looked at.
+        let _length = bytes.len();
         Frame { bytes }
     }
 

@@ -18,13 +18,14 @@ mod reading;
 mod tests;
 mod writing;
 
-pub use addresses::{ALL_SHELVES, ALL_SLOTS, CLIENT, SERVER, SHELF, SLOT};
+pub use addresses::{ALL_MAJORS, ALL_MINORS, CLIENT, MAJOR, MINOR, SERVER};
 pub use bytes::Bytes;
 pub use frame::{Frame, MOST_BYTES};
 pub use laws::{a_frame_has_one_reading, a_written_message_is_read, bytes_say_one_message};
 pub use message::{
-    ATA, Aoe, Argument, AtaPart, BODY_AT, CONFIG, ConfigPart, ETHER_TYPE, EXTENDED, FAILED,
-    FrameFault, Header, MOST_BODY, REPLY, VERSION, WRITE,
+    ATA, ATA_BYTES, Aoe, Argument, AtaPart, BODY_AT, CONFIG, CONFIG_BYTES, ConfigPart, ETHER_TYPE,
+    EXTENDED, FAILED, FrameFault, HEADER_BYTES, Header, MOST_BODY, REPLY, TYPE_AT, TYPE_END,
+    VERSION, WRITE,
 };
 pub use reading::parse;
 pub use writing::write;

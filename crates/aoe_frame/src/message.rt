@@ -26,10 +26,25 @@ pub const EXTENDED: u8 = 0x40;
 /// ATA flags: the body goes to the device (AoE r11, Issue ATA Command).
 pub const WRITE: u8 = 0x01;
 
-/// The place in a frame at which the body of an ATA argument begins (AoE r11, Issue ATA Command).
-pub const BODY_AT: usize = 36;
+/// The place of the type in a frame, behind the two Ethernet addresses (AoE r11, common header).
+pub const TYPE_AT: usize = 12;
 
-/// The most bytes that the body of an ATA argument has: two sectors (own).
+/// The place behind the type (AoE r11, common header).
+pub const TYPE_END: usize = 14;
+
+/// The bytes of a header, from the destination to the tag; the argument begins behind them (AoE r11, common header).
+pub const HEADER_BYTES: usize = 24;
+
+/// The bytes of an ATA argument in front of its body, the two reserved ones too (AoE r11, Issue ATA Command).
+pub const ATA_BYTES: usize = 12;
+
+/// The bytes of a configuration argument in front of its string (AoE r11, Query Config Information).
+pub const CONFIG_BYTES: usize = 8;
+
+/// The place in a frame at which the body of an ATA argument begins (AoE r11, Issue ATA Command).
+pub const BODY_AT: usize = HEADER_BYTES + ATA_BYTES;
+
+/// The most bytes that the body of an ATA argument has: two sectors of 512 bytes (own).
 pub const MOST_BODY: usize = 1024;
 
 /// The fields that every frame begins with, in wire order but for the type (AoE r11, common header).
@@ -45,9 +60,9 @@ pub struct Header {
     pub flags: u8,
     /// Why the command failed, where `FAILED` is set.
     pub error: u8,
-    /// The shelf of the target.
+    /// The major address of the target, its shelf.
     pub major: u16,
-    /// The slot in the shelf.
+    /// The minor address of the target, its slot in the shelf.
     pub minor: u8,
     /// `ATA`, `CONFIG`, or another, which has no argument here.
     pub command: u8,

@@ -3,13 +3,13 @@
 ghost use Rattle.std.specs.Prelude.{◌≡◌, ◌≤◌, ◌<◌, ◌+◌, ◌↔◌, length, take, drop, MatchOption, MatchResult, Ok, Err};
 ghost use Rattle.aoe_frame.specs.declared.message.Header.{Header as HeaderOf};
 ghost use Rattle.aoe_frame.specs.declared.message.Aoe.{Aoe as AoeOf};
-ghost use Rattle.aoe_frame.specs.Layout.{HasHeader, HasArgument, ArgumentFits, AtaFits, ConfigFits, IsOf};
+ghost use Rattle.aoe_frame.specs.Layout.{HasFrameHeader, HasArgument, ArgumentFits, AtaFits, ConfigFits, IsArgumentOf};
 ghost use Rattle.aoe_frame.specs.Reading.{IsReading, IsAoe, IsMessage, IsOfOtherType, IsOfOtherVersion, IsShort, bytes_needed};
 
 use crate::numbers::{u16_at, u32_at, u48_at};
 use crate::{
-    ATA, Aoe, Argument, AtaPart, Bytes, CONFIG, ConfigPart, ETHER_TYPE, Frame, FrameFault, Header,
-    MOST_BYTES, VERSION,
+    ATA, ATA_BYTES, Aoe, Argument, AtaPart, Bytes, CONFIG, CONFIG_BYTES, ConfigPart, ETHER_TYPE,
+    Frame, FrameFault, HEADER_BYTES, Header, MOST_BYTES, TYPE_AT, TYPE_END, VERSION,
 };
 
 /// What a frame says (AoE r11).
@@ -36,32 +36,32 @@ fn read(bytes: &[u8]) -> Result<Aoe, FrameFault>
     if header.version != VERSION {
         return Err(FrameFault::Version(header));
     }
-    match read_argument(header.command, &bytes[24..]) {
+    match read_argument(header.command, &bytes[HEADER_BYTES..]) {
         Some(argument) => Ok(Aoe { header, argument }),
         None => Err(FrameFault::Short),
     }
 }
 
 fn read_header(bytes: &[u8]) -> Result<Header, FrameFault>
-    ensures header { MatchResult result (HasHeader bytes.now)
+    ensures header { MatchResult result (HasFrameHeader bytes.now)
         (λ fault. IsReading bytes.now (Err fault)) }
 {
-    if bytes.len() < 14 {
+    if bytes.len() < TYPE_END {
         return Err(FrameFault::Short);
     }
-    if u16_at(bytes, 12) != ETHER_TYPE {
+    if u16_at(bytes, TYPE_AT) != ETHER_TYPE {
         return Err(FrameFault::NotAoe);
     }
-    if bytes.len() < 24 {
+    if bytes.len() < HEADER_BYTES {
         return Err(FrameFault::Short);
     }
     Ok(header_in(bytes))
 }
 
 fn header_in(bytes: &[u8]) -> Header
-    requires long { 24 ≤ length bytes.now }
+    requires long { HEADER_BYTES ≤ length bytes.now }
     requires aoe { IsAoe bytes.now }
-    ensures header { HasHeader bytes.now result }
+    ensures header { HasFrameHeader bytes.now result }
 {
     Header {
         dest: address_at(bytes, 0),
@@ -86,9 +86,9 @@ fn address_at(bytes: &[u8], at: usize) -> [u8; 6]
 }
 
 fn read_argument(command: u8, bytes: &[u8]) -> Option<Argument>
-    requires few { 24 + length bytes.now ≤ MOST_BYTES }
-    ensures argument { MatchOption result (24 + length bytes.now < bytes_needed command)
-        (λ a. IsOf command a × HasArgument bytes.now a × ArgumentFits a) }
+    requires few { HEADER_BYTES + length bytes.now ≤ MOST_BYTES }
+    ensures argument { MatchOption result (HEADER_BYTES + length bytes.now < bytes_needed command)
+        (λ a. IsArgumentOf command a × HasArgument bytes.now a × ArgumentFits a) }
 {
     match command {
         ATA => Some(Argument::Ata(read_ata(bytes)?)),
@@ -98,11 +98,11 @@ fn read_argument(command: u8, bytes: &[u8]) -> Option<Argument>
 }
 
 fn read_ata(bytes: &[u8]) -> Option<AtaPart>
-    requires few { 24 + length bytes.now ≤ MOST_BYTES }
-    ensures part { MatchOption result (length bytes.now < 12)
+    requires few { HEADER_BYTES + length bytes.now ≤ MOST_BYTES }
+    ensures part { MatchOption result (length bytes.now < ATA_BYTES)
         (λ a. HasArgument bytes.now (Argument.Ata a) × AtaFits a) }
 {
-    if bytes.len() < 12 {
+    if bytes.len() < ATA_BYTES {
         return None;
     }
     Some(AtaPart {
@@ -111,15 +111,15 @@ fn read_ata(bytes: &[u8]) -> Option<AtaPart>
         count: bytes[2],
         command: bytes[3],
         lba: u48_at(bytes, 4),
-        body: Bytes::of(&bytes[12..]),
+        body: Bytes::of(&bytes[ATA_BYTES..]),
     })
 }
 
 fn read_config(bytes: &[u8]) -> Option<ConfigPart>
-    ensures part { MatchOption result (length bytes.now < 8)
+    ensures part { MatchOption result (length bytes.now < CONFIG_BYTES)
         (λ c. HasArgument bytes.now (Argument.Config c) × ConfigFits c) }
 {
-    if bytes.len() < 8 {
+    if bytes.len() < CONFIG_BYTES {
         return None;
     }
     Some(ConfigPart {

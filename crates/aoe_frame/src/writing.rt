@@ -1,10 +1,10 @@
 //! The bytes of what a frame says.
 
 ghost use Rattle.std.specs.Prelude.{◌≡◌, ◌≤◌, ◌+◌, ◌++◌, List, ℕ, [], length};
-ghost use Rattle.aoe_frame.specs.Layout.{AtaFits, ConfigFits, Fits, IsOf, IsWritable, Says, argument_written, frame_of, header_bytes, HeaderFits};
+ghost use Rattle.aoe_frame.specs.Layout.{AtaFits, ConfigFits, Fits, IsArgumentOf, IsWritable, SaysMessage, argument_written, frame_of, header_bytes, HeaderFits};
 
 use crate::frame::{FrameBytes, MOST_BYTES};
-use crate::{Aoe, Argument, AtaPart, ConfigPart, ETHER_TYPE, Frame, Header};
+use crate::{Aoe, Argument, AtaPart, ConfigPart, ETHER_TYPE, Frame, HEADER_BYTES, Header};
 use arrayvec::ArrayVec;
 
 /// The shortest frame that says this (AoE r11). The two reserved bytes of an ATA argument are 0 (own).
@@ -15,10 +15,10 @@ pub fn write(message: &Aoe) -> Frame
     requires fits { Fits message.now }
     requires kind { IsWritable message.now.header.command message.now.argument }
     ensures frame { result ≡ frame_of message.now }
-    ensures read_back { IsOf message.now.header.command message.now.argument →
-        Says result message.now }
-    ensures shortest { (bytes : List ℕ) → Says bytes message.now → length result ≤ length bytes }
-    ensures other { message.now.argument ≡ Argument.Other → length result ≡ 24 }
+    ensures read_back { IsArgumentOf message.now.header.command message.now.argument →
+        SaysMessage result message.now }
+    ensures shortest { (bytes : List ℕ) → SaysMessage bytes message.now → length result ≤ length bytes }
+    ensures other { message.now.argument ≡ Argument.Other → length result ≡ HEADER_BYTES }
 {
     write_all(message)
 }
@@ -42,7 +42,7 @@ fn write_header(header: &Header, frame: &mut FrameBytes)
     requires fits { HeaderFits header.now }
     requires first { frame.old.items ≡ [] }
     ensures header { frame.new.items ≡ header_bytes header.now }
-    ensures bytes { length frame.new.items ≡ 24 }
+    ensures bytes { length frame.new.items ≡ HEADER_BYTES }
 {
     append(&header.dest, frame);
     append(&header.source, frame);
@@ -57,7 +57,7 @@ fn write_header(header: &Header, frame: &mut FrameBytes)
 
 fn write_ata(part: &AtaPart, frame: &mut FrameBytes)
     requires fits { AtaFits part.now }
-    requires few { length frame.old.items ≡ 24 }
+    requires few { length frame.old.items ≡ HEADER_BYTES }
     ensures part { frame.new.items
         ≡ frame.old.items ++ argument_written (Argument.Ata part.now) }
 {
@@ -72,7 +72,7 @@ fn write_ata(part: &AtaPart, frame: &mut FrameBytes)
 
 fn write_config(part: &ConfigPart, frame: &mut FrameBytes)
     requires fits { ConfigFits part.now }
-    requires few { length frame.old.items ≡ 24 }
+    requires few { length frame.old.items ≡ HEADER_BYTES }
     ensures part { frame.new.items
         ≡ frame.old.items ++ argument_written (Argument.Config part.now) }
 {

@@ -1,7 +1,7 @@
 //! The network and its calls.
 
 ghost use Rattle.std.specs.Prelude.{◌≡◌, ◌<◌, ◌↔◌, length, slice_get, IfOk, IsTrue, if◌then◌else◌};
-ghost use Rattle.aoe_net.specs.Wire.{IsWithin, going, nothing_sent, put_out, sent, without};
+ghost use Rattle.aoe_net.specs.Wire.{FitsRings, going, nothing_sent, displaced, sent, without};
 
 use crate::Way;
 use crate::ring::Ring;
@@ -40,7 +40,7 @@ impl Net {
     /// Appends a frame to a list. The oldest is handed back, and is lost, exactly where the list was full.
     pub fn send(&mut self, way: Way, frame: Frame) -> Option<Frame>
         ensures after { self.new ≡ sent way frame self.old }
-        ensures oldest { result ≡ put_out (going way self.old) }
+        ensures oldest { result ≡ displaced (going way self.old) }
     {
         match way {
             Way::ToServer => self.to_server.send(frame),
@@ -92,7 +92,7 @@ impl Net {
 
 /// No list has more frames than it has room for.
 pub fn no_more_frames_than_room(net: &Net)
-    ensures { IsWithin net.now }
+    ensures { FitsRings net.now }
 {
     // The clauses of these calls say it.
     let _within = (net.to_server.len(), net.to_client.len());

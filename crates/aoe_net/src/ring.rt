@@ -2,7 +2,7 @@
 
 ghost use Rattle.std.specs.Prelude.{◌≡◌, ◌∷◌, ◌<◌, ◌≤◌, [], length, take, get_or, remove, slice_get, IfOk};
 ghost use Rattle.circular_buffer.specs.Buffer.{buffer};
-ghost use Rattle.aoe_net.specs.Wire.{appended, put_out};
+ghost use Rattle.aoe_net.specs.Wire.{queued, displaced};
 
 use aoe_frame::Frame;
 use circular_buffer::HeapCircularBuffer;
@@ -40,8 +40,8 @@ impl Ring {
 
     // Appends a frame. Where the ring is full, the oldest is handed back.
     pub(crate) fn send(&mut self, frame: Frame) -> Option<Frame>
-        ensures after { self.new ≡ appended frame self.old }
-        ensures oldest { result ≡ put_out self.old }
+        ensures after { self.new ≡ queued frame self.old }
+        ensures oldest { result ≡ displaced self.old }
     {
         self.frames.push_back(frame)
     }
@@ -86,7 +86,7 @@ fn bring_to_front(frames: &mut HeapCircularBuffer<Frame>, k: usize)
     turn(frames.make_contiguous(), k);
 }
 
-// The same in a slice.
+// Brings frame `k` of a slice before the older ones.
 fn turn(frames: &mut [Frame], k: usize)
     requires { k < length frames.old }
     ensures { frames.new ≡ get_or frames.old k [] ∷ remove frames.old k }

@@ -12,7 +12,7 @@ use Rattle.image_server.specs.declared.request.Asked.{Asked}
 use Rattle.image_server.specs.declared.request.Asked.TheVariants.{Sectors}
 use Rattle.image_server.specs.Request.{asked_in}
 use Rattle.image_server.specs.Reply.{answered, ata_answer, reply, sectors_sent}
-use Rattle.image_server.specs.Serving.{HasSectors, IsAnswer, OverImage}
+use Rattle.image_server.specs.Serving.{HasSectors, IsReply, OverImage}
 use Rattle.image_server.proofs.Images.{over_any, over_map, over_bytes}
 
 asked_sectors : (sectors : ℕ) (a : AtaPart) → asked_in sectors a ≡ Sectors → a.lba + a.count ≤ sectors
@@ -45,10 +45,10 @@ pub answer_read : (sectors : ℕ) (told : Option (List ℕ)) (frame : List ℕ) 
     (answer : Option (List ℕ))
     → IsReading frame read
     → OverImage sectors told (λ image. answer ≡ option_map frame_of (reply sectors image read))
-    → OverImage sectors told (λ image. IsAnswer sectors image frame answer)
+    → OverImage sectors told (λ image. IsReply sectors image frame answer)
 answer_read sectors told frame read answer is over =
     over_map sectors told (λ image. answer ≡ option_map frame_of (reply sectors image read))
-    (λ image. IsAnswer sectors image frame answer)
+    (λ image. IsReply sectors image frame answer)
     (λ image e r other. e ∙ ap (λ x. option_map frame_of (reply sectors image x)) (one_reading frame read r is other))
     over
 
@@ -56,7 +56,7 @@ pub answer_result : {E : Type 0} (sectors : ℕ) (told : Option (List ℕ)) (fra
     (result : Result (Option (List ℕ)) E)
     → IsReading frame read
     → IfOk result (λ answer. OverImage sectors told (λ image. answer ≡ option_map frame_of (reply sectors image read)))
-    → IfOk result (λ answer. OverImage sectors told (λ image. IsAnswer sectors image frame answer))
+    → IfOk result (λ answer. OverImage sectors told (λ image. IsReply sectors image frame answer))
 answer_result sectors told frame read (Ok answer) is over = answer_read sectors told frame read answer is over
 answer_result sectors told frame read (Err e) is over = tt
 

@@ -1,7 +1,8 @@
--- The 512 bytes that the server answers to IDENTIFY DEVICE, the low byte of each word first (ATA/ATAPI-6, IDENTIFY
--- DEVICE; own: each value).
+-- The sector that the server answers to IDENTIFY DEVICE, the low byte of each word first (ATA/ATAPI-6, IDENTIFY DEVICE;
+-- own: each value).
 use Rattle.std.specs.Prelude.{ℕ, List, [], ◌∷◌, ◌++◌, codes, replicate}
 use Rattle.std.specs.Int.{bytes_low_first}
+use Rattle.image_server.specs.declared.identity.TheConstants.{CAPABILITIES, COMMAND_SETS}
 
 -- a text in words: the first character of each pair is the high byte, and so comes second (ATA/ATAPI-6, IDENTIFY
 -- DEVICE)
@@ -10,9 +11,9 @@ in_words [] = []
 in_words (last ∷ []) = last ∷ []
 in_words (first ∷ (second ∷ rest)) = second ∷ first ∷ in_words rest
 
--- the bytes, of a server of so many sectors
-abbrev pub identity : ℕ → List ℕ
-identity sectors =
+-- the sector that a server of so many sectors says of itself
+abbrev pub server_identity : ℕ → List ℕ
+server_identity sectors =
     -- words 0 to 9
     replicate 20 0
     -- 10 to 19: serial number
@@ -25,16 +26,16 @@ identity sectors =
     ++ in_words (codes "BMCAST IMAGE                            ")
     -- 47 and 48
     ++ replicate 4 0
-    -- 49: 0200h, addresses are sector numbers
-    ++ bytes_low_first 0 2 512
+    -- 49: 0200h, addresses are numbers of sectors
+    ++ bytes_low_first 0 2 CAPABILITIES
     -- 50 to 59
     ++ replicate 20 0
     -- 60 and 61: the low 32 bits of the number of sectors
     ++ bytes_low_first 0 4 sectors
     -- 62 to 82
     ++ replicate 42 0
-    -- 83: 4400h, addresses have 48 bits
-    ++ bytes_low_first 0 2 17408
+    -- 83: 4400h, addresses may have 48 bits
+    ++ bytes_low_first 0 2 COMMAND_SETS
     -- 84 to 99
     ++ replicate 32 0
     -- 100 to 103: the number of sectors

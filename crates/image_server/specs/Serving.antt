@@ -2,6 +2,7 @@
 use Rattle.std.specs.Prelude.{ℕ, ◌≡◌, ◌≤◌, ◌<◌, ◌+◌, ◌*◌, List, length, Option, Some, None, Result, option_map}
 use Rattle.bm_host.specs.declared.Role.TheVariants.{Image}
 use Rattle.bm_host.specs.Outside.{IfTold, Outside}
+use Rattle.ata_taskfile.specs.declared.registers.TheConstants.{SECTOR_BYTES}
 use Rattle.aoe_frame.specs.declared.message.Aoe.{Aoe}
 use Rattle.aoe_frame.specs.declared.message.FrameFault.{FrameFault}
 use Rattle.aoe_frame.specs.Layout.{frame_of}
@@ -10,24 +11,24 @@ use Rattle.image_server.specs.Reply.{reply, sectors_sent}
 
 -- the image has so many sectors, where it is told
 abbrev pub HasImage : ℕ → Outside → Type 0
-HasImage sectors outside = IfTold (outside.told Image) (λ image. 512 * sectors ≤ length image)
+HasImage sectors outside = IfTold (outside.told Image) (λ image. SECTOR_BYTES * sectors ≤ length image)
 
 -- over the image where it is told, else over some image of so many sectors
 abbrev pub OverImage : ℕ → Option (List ℕ) → (List ℕ → Type 0) → Type 0
-OverImage sectors None P = (image : List ℕ) × (length image ≡ 512 * sectors) × P image
+OverImage sectors None P = (image : List ℕ) × (length image ≡ SECTOR_BYTES * sectors) × P image
 OverImage sectors (Some image) P = P image
 
 -- the answer to a frame over an image: its reply as it is written, or none
-abbrev pub IsAnswer : ℕ → List ℕ → List ℕ → Option (List ℕ) → Type 0
-IsAnswer sectors image frame answer =
+abbrev pub IsReply : ℕ → List ℕ → List ℕ → Option (List ℕ) → Type 0
+IsReply sectors image frame answer =
     (r : Result Aoe FrameFault) → IsReading frame r
     → answer ≡ option_map frame_of (reply sectors image r)
 
 -- no more of the image is looked at than this many sectors
 abbrev pub LooksAtMost : ℕ → Outside → Outside → Type 0
-LooksAtMost sectors old new = new.looked ≤ old.looked + 512 * sectors
+LooksAtMost sectors old new = new.looked ≤ old.looked + SECTOR_BYTES * sectors
 
--- no more of it is looked at than goes into the reply to a frame
+-- no more of the image is looked at than goes into the reply to a frame
 abbrev pub LooksAtSent : ℕ → List ℕ → Outside → Outside → Type 0
 LooksAtSent sectors frame old new =
     (r : Result Aoe FrameFault) → IsReading frame r → LooksAtMost (sectors_sent sectors r) old new

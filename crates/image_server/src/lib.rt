@@ -18,5 +18,4 @@ mod serving;
 mod tests;
 
 pub use reply::GOOD_STATUS;
-pub use request::READ_EXTENDED;
 pub use serving::serve;

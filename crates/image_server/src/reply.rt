@@ -5,35 +5,47 @@ ghost use Rattle.image_server.specs.Reply.{accepted, answered, refusal, reply_he
 
 use crate::body::Body;
 use aoe_frame::{
-    Aoe, Argument, AtaPart, ConfigPart, FAILED, Header, REPLY, SERVER, SHELF, SLOT, VERSION,
+    Aoe, Argument, AtaPart, ConfigPart, FAILED, Header, MAJOR, MINOR, REPLY, SERVER, VERSION,
 };
 use ata_taskfile::registers::{DRDY, DSC, ERR};
 
 /// Why a command isn't done: there is none of this byte (AoE r11, error codes).
 pub(crate) const UNKNOWN_COMMAND: u8 = 1;
 
-/// Its argument isn't served (AoE r11, error codes).
+/// Why a command isn't done: its argument isn't served (AoE r11, error codes).
 pub(crate) const BAD_ARGUMENT: u8 = 2;
 
-/// It has another version (AoE r11, error codes).
+/// Why a command isn't done: the request has another version (AoE r11, error codes).
 pub(crate) const OTHER_VERSION: u8 = 5;
 
 /// Status after an ATA command that was done (ATA/ATAPI-6, Status register; own: DSC is always set).
 pub const GOOD_STATUS: u8 = DRDY | DSC;
 
-/// Status after one that failed (ATA/ATAPI-6, Status register).
+/// Status after an ATA command that failed (ATA/ATAPI-6, Status register; own: DSC is always set).
 pub(crate) const FAILED_STATUS: u8 = DRDY | DSC | ERR;
 
-/// Error where none is told.
+/// Error after an ATA command that was done (ATA/ATAPI-6, Error register).
 pub(crate) const NO_ERROR: u8 = 0;
 
-/// What the server has room for: 64 requests of two sectors each, and no string (own).
+/// How many requests the server keeps at a time (own).
+pub(crate) const REQUESTS_KEPT: u16 = 64;
+
+/// The version of its firmware (own).
+pub(crate) const FIRMWARE: u16 = 1;
+
+/// The most sectors that a request is served (own).
+pub(crate) const MOST_SECTORS: u8 = 2;
+
+/// What is done with the configuration string: it is read (AoE r11, Query Config Information).
+pub(crate) const READ_STRING: u8 = 0;
+
+/// What the server says of its configuration. The string has no byte (own).
 pub(crate) const CONFIGURATION: ConfigPart = ConfigPart {
-    buffers: 64,
-    firmware: 1,
-    count: 2,
+    buffers: REQUESTS_KEPT,
+    firmware: FIRMWARE,
+    count: MOST_SECTORS,
     version: VERSION,
-    code: 0,
+    code: READ_STRING,
     length: 0,
 };
 
@@ -66,8 +78,8 @@ fn reply_header(request: &Header, flags: u8, error: u8) -> Header
         version: VERSION,
         flags,
         error,
-        major: SHELF,
-        minor: SLOT,
+        major: MAJOR,
+        minor: MINOR,
         command: request.command,
         tag: request.tag,
     }

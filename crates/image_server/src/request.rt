@@ -3,13 +3,8 @@
 ghost use Rattle.std.specs.Prelude.{◌≡◌, ◌<◌, ◌+◌, ◌^◌};
 ghost use Rattle.image_server.specs.Request.{asked_in, is_heard, is_identify, is_read};
 
-use aoe_frame::{ALL_SHELVES, ALL_SLOTS, AtaPart, EXTENDED, Header, REPLY, SHELF, SLOT, WRITE};
-
-/// The command byte of READ SECTOR(S) EXT (ATA/ATAPI-6).
-pub const READ_EXTENDED: u8 = 0x24;
-
-/// The command byte of IDENTIFY DEVICE (ATA/ATAPI-6).
-pub(crate) const IDENTIFY: u8 = 0xec;
+use aoe_frame::{ALL_MAJORS, ALL_MINORS, AtaPart, EXTENDED, Header, MAJOR, MINOR, REPLY, WRITE};
+use ata_taskfile::registers::{IDENTIFY_DEVICE, READ_SECTORS_EXT};
 
 /// What an ATA argument asks.
 #[derive(Clone, Copy)]
@@ -29,8 +24,8 @@ pub(crate) fn is_heard(header: &Header) -> bool
     ensures heard { result ≡ is_heard header.now }
 {
     header.flags & REPLY == 0
-        && (header.major == SHELF || header.major == ALL_SHELVES)
-        && (header.minor == SLOT || header.minor == ALL_SLOTS)
+        && (header.major == MAJOR || header.major == ALL_MAJORS)
+        && (header.minor == MINOR || header.minor == ALL_MINORS)
 }
 
 pub(crate) fn asked_in(part: &AtaPart, sectors: u64) -> Asked
@@ -53,7 +48,7 @@ pub(crate) fn asked_in(part: &AtaPart, sectors: u64) -> Asked
 fn is_read(part: &AtaPart) -> bool
     ensures read { result ≡ is_read part.now }
 {
-    part.command == READ_EXTENDED
+    part.command == READ_SECTORS_EXT
         && part.flags & EXTENDED != 0
         && part.flags & WRITE == 0
         && (part.count == 1 || part.count == 2)
@@ -62,5 +57,5 @@ fn is_read(part: &AtaPart) -> bool
 fn is_identify(part: &AtaPart) -> bool
     ensures identify { result ≡ is_identify part.now }
 {
-    part.command == IDENTIFY && part.flags & EXTENDED == 0
+    part.command == IDENTIFY_DEVICE && part.flags & EXTENDED == 0
 }

@@ -2,70 +2,71 @@
 use Rattle.std.specs.Prelude.{ℕ, ◌≡◌, ◌*◌, Bool, true, false, not, List, [], ◌∷◌, ◌++◌, length, take, drop, slice_set, replicate, slice_get, count_by, position, Option, Some, None}
 use Rattle.std.specs.Ptr.{Ptr}
 
--- a lease: where the block of its pool lies, and its slot (own)
+-- a lease: where the block of its pool lies, and the number of its buffer (own)
 pub record Held : Type 0 where
   pub pool : Ptr
-  pub slot : ℕ
+  pub buffer : ℕ
 
--- a pool: where its block lies, how many bytes a slot has, which slots are free, and the block, slot after slot (own)
+-- a pool: where its block lies, how many bytes a buffer has, which buffers are free, and the bytes of the block, buffer
+-- after buffer (own)
 pub record Region : Type 0 where
-  pub place : Ptr
+  pub base : Ptr
   pub room : ℕ
   pub free : List Bool
   pub block : List ℕ
 
--- a pool at its start, with its block at this place: each slot is free, and each byte zero
+-- a pool at its start, with its block at this base: each buffer is free, and each byte zero
 abbrev pub all_free : Ptr → ℕ → ℕ → Region
-all_free place slots room = record {
-  place = place;
+all_free base buffers room = record {
+  base = base;
   room = room;
-  free = replicate slots true;
-  block = replicate (slots * room) 0;
+  free = replicate buffers true;
+  block = replicate (buffers * room) 0;
 }
 
--- the block is all slots
-abbrev pub IsWhole : Region → Type 0
-IsWhole pool = length pool.block ≡ length pool.free * pool.room
+-- the block has the bytes of all buffers, and no more
+abbrev pub HasWholeBuffers : Region → Type 0
+HasWholeBuffers pool = length pool.block ≡ length pool.free * pool.room
 
--- how many slots there are
-abbrev pub slots_of : Region → ℕ
-slots_of pool = length pool.free
+-- how many buffers a pool has, free or out
+abbrev pub buffers_in : Region → ℕ
+buffers_in pool = length pool.free
 
--- how many are free
+-- how many buffers of a pool are free
 abbrev pub free_of : Region → ℕ
 free_of pool = count_by (λ free. free) pool.free
 
--- how many are out: each with the holder of its lease
+-- how many buffers of a pool are out: each is with the holder of its lease
 abbrev pub out_of : Region → ℕ
 out_of pool = count_by not pool.free
 
--- the lowest free slot
+-- the number of the lowest free buffer
 abbrev pub first_free : Region → Option ℕ
 first_free pool = position (λ free. free) pool.free
 
--- the lease of a slot
+-- the lease of a buffer of a pool
 abbrev pub lease_of : Region → ℕ → Held
-lease_of pool slot = record { pool = pool.place; slot = slot }
+lease_of pool buffer = record { pool = pool.base; buffer = buffer }
 
--- the same pool, but this slot is free, or out
+-- a pool in which this buffer is free, or out, and all else is as it was
 abbrev pub with_free : Bool → ℕ → Region → Region
-with_free free slot pool = record pool { free = slice_set pool.free slot free }
+with_free free buffer pool = record pool { free = slice_set pool.free buffer free }
 
--- a pool once this slot, where there is one, is leased
+-- a pool once this buffer, where there is one, is leased
 abbrev pub leased : Option ℕ → Region → Region
 leased None pool = pool
-leased (Some slot) pool = with_free false slot pool
+leased (Some buffer) pool = with_free false buffer pool
 
 -- a pool once a lease is given back
 abbrev pub given : Held → Region → Region
-given lease pool = with_free true lease.slot pool
+given lease pool = with_free true lease.buffer pool
 
--- a lease is of a pool: it names the pool's block, and its slot is out (own)
+-- a lease is of a pool: it says where the pool's block lies, and its buffer is out (own)
 pub record IsOf (lease : Held) (pool : Region) : Type 0 where
-  pub block : lease.pool ≡ pool.place
-  pub out : slice_get pool.free lease.slot ≡ Some false
+  pub base : lease.pool ≡ pool.base
+  pub out : slice_get pool.free lease.buffer ≡ Some false
 
--- leases that are held at once are of a pool: each is, once those before it are given back; so no two share a slot
+-- leases that are held at once are of a pool: each is, once those before it are given back; so no two share a buffer
 abbrev pub AreOf : List Held → Region → Type 0
 AreOf [] pool = Unit {0}
 AreOf (lease ∷ leases) pool = IsOf lease pool × AreOf leases (given lease pool)
@@ -75,16 +76,16 @@ abbrev pub all_given : List Held → Region → Region
 all_given [] pool = pool
 all_given (lease ∷ leases) pool = all_given leases (given lease pool)
 
--- a lease's bytes
-abbrev pub bytes_of : Held → Region → List ℕ
-bytes_of lease pool = take pool.room (drop (lease.slot * pool.room) pool.block)
+-- the bytes of a lease's buffer
+abbrev pub leased_bytes : Held → Region → List ℕ
+leased_bytes lease pool = take pool.room (drop (lease.buffer * pool.room) pool.block)
 
 -- bytes written over as many from this place on; where they reach past the end, the rest is cut off
-abbrev pub written_at : ℕ → List ℕ → List ℕ → List ℕ
-written_at place bytes block =
+abbrev pub written_over : ℕ → List ℕ → List ℕ → List ℕ
+written_over place bytes block =
     take (length block) (take place block ++ (bytes ++ drop (length bytes) (drop place block)))
 
--- a pool once these bytes, as many as a slot has, are written through a lease
+-- a pool once these bytes, as many as a buffer has, are written through a lease
 abbrev pub with_bytes : Held → Region → List ℕ → Region
 with_bytes lease pool bytes =
-    record pool { block = written_at (lease.slot * pool.room) bytes pool.block }
+    record pool { block = written_over (lease.buffer * pool.room) bytes pool.block }

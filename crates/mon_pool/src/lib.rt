@@ -1,4 +1,4 @@
-//! The monitor's own memory: one block, and leases of its slots.
+//! The monitor's own memory: one block, and leases of its buffers.
 //!
 //! Start with `Pool`. `specs/Region.antt` says what a pool holds and what each call does to it, `specs/Lending.antt`
 //! how a lease's bytes are lent.

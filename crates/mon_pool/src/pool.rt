@@ -2,16 +2,16 @@
 
 ghost use Rattle.std.specs.Prelude.{◌≡◌, ◌+◌, ◌↔◌, length, IfOk, IsNone, option_map};
 ghost use Rattle.std.specs.Borrow.{sem};
-ghost use Rattle.mon_pool.specs.Region.{IsOf, IsWhole, all_free, bytes_of, first_free, free_of, given, lease_of, leased, out_of, slots_of};
+ghost use Rattle.mon_pool.specs.Region.{IsOf, HasWholeBuffers, all_free, leased_bytes, first_free, free_of, given, lease_of, leased, out_of, buffers_in};
 ghost use Rattle.mon_pool.specs.Lending.{LendsBytes};
 
 use crate::Lease;
 use std::alloc::{AllocError, Global};
 use std::marker::Model;
 
-/// One block of memory, taken once, in slots of one length that are leased one by one.
+/// One block of memory, taken once, in buffers of one length that are leased one by one.
 ///
-/// A contract sees where the block lies, which slots are free, and the block (`Region` of `specs/Region.antt`).
+/// A contract sees where the block lies, which buffers are free, and the block (`Region` of `specs/Region.antt`).
 #[derive(Drop)]
 pub struct Pool {
     room: usize,
@@ -26,7 +26,7 @@ impl Model for Pool {
     ghost Value = { Region };
 
     ghost view = { λ p. record {
-      place = p.block.ptr;
+      base = p.block.ptr;
       room = p.room;
       free = p.free.items;
       block = p.block.items;
@@ -37,40 +37,40 @@ impl Model for Pool {
 }
 
 impl Pool {
-    /// A pool of so many slots of so many bytes each, all free and zero. It fails only for want of memory; no later
+    /// A pool of so many buffers of so many bytes each, all free and zero. It fails only for want of memory; no later
     /// call takes any.
-    pub fn new(alloc: Global, slots: u32, bytes: u32) -> Result<Pool, AllocError>
-        ensures { IfOk result (λ pool. pool ≡ all_free pool.place slots bytes) }
+    pub fn new(alloc: Global, buffers: u32, bytes: u32) -> Result<Pool, AllocError>
+        ensures { IfOk result (λ pool. pool ≡ all_free pool.base buffers bytes) }
     {
         Ok(Pool {
             room: bytes as usize,
-            free: vec![in alloc; true; slots as usize]?,
-            block: vec![in alloc; 0; slots as usize * bytes as usize]?,
+            free: vec![in alloc; true; buffers as usize]?,
+            block: vec![in alloc; 0; buffers as usize * bytes as usize]?,
         })
     }
 
-    /// Leases the lowest free slot; None exactly where no slot is free. The bytes are what they were.
+    /// Leases the lowest free buffer; None exactly where no buffer is free. The bytes are what they were.
     pub fn take(&mut self) -> Option<Lease>
         ensures lease { result ≡ option_map (lease_of self.old) (first_free self.old) }
         ensures after { self.new ≡ leased (first_free self.old) self.old }
         ensures none { IsNone result ↔ (free_of self.old ≡ 0) }
     {
-        let slot = self.first_free()?;
-        self.free[slot] = false;
+        let buffer = self.first_free()?;
+        self.free[buffer] = false;
         Some(Lease {
             pool: self.block.as_ptr(),
-            slot,
+            buffer,
         })
     }
 
     /// The lease's bytes.
-    #[tactic(auto, using(crate::proofs::Slots::slot_within))]
+    #[tactic(auto, using(crate::proofs::Leases::buffer_within))]
     pub fn bytes(&self, lease: &Lease) -> &[u8]
         requires { IsOf lease.now self.now }
-        ensures value { result.now ≡ bytes_of lease.now self.now }
+        ensures value { result.now ≡ leased_bytes lease.now self.now }
         ensures long { length result.now ≡ self.now.room }
     {
-        let at = lease.slot * self.room;
+        let at = lease.buffer * self.room;
         &self.block[at..at + self.room]
     }
 
@@ -78,43 +78,43 @@ impl Pool {
     pub fn bytes_mut(&mut self, lease: &mut Lease) -> &mut [u8]
         requires { IsOf lease.old self.old }
         ensures* writes_back { sem 𝓛 (LendsBytes self.entry lease.old result) }
-        ensures value { result.now ≡ bytes_of lease.old self.old }
+        ensures value { result.now ≡ leased_bytes lease.old self.old }
         ensures long { length result.now ≡ self.old.room }
         ensures lease { lease.new ≡ lease.old }
     {
-        let at = lease.slot * self.room;
+        let at = lease.buffer * self.room;
         self.block.slice_mut(at..at + self.room)
     }
 
-    /// Takes a lease back: its slot is free.
+    /// Takes a lease back: its buffer is free.
     pub fn give(&mut self, lease: Lease)
         requires { IsOf lease self.old }
         ensures { self.new ≡ given lease self.old }
     {
-        let Lease { slot, pool: _ } = lease;
-        self.free[slot] = true;
+        let Lease { buffer, pool: _ } = lease;
+        self.free[buffer] = true;
     }
 
-    /// How many slots are free.
-    #[tactic(auto, using(crate::proofs::Slots::free_and_out))]
+    /// How many buffers are free.
+    #[tactic(auto, using(crate::proofs::Leases::free_and_out))]
     pub fn free(&self) -> u32
         ensures free { result ≡ free_of self.now }
-        ensures add_up { result + out_of self.now ≡ slots_of self.now }
+        ensures add_up { result + out_of self.now ≡ buffers_in self.now }
     {
         self.free.iter().filter(|free| **free).count() as u32
     }
 
-    // The lowest free slot.
+    // The lowest free buffer.
     fn first_free(&self) -> Option<usize>
         ensures { result ≡ first_free self.now }
     {
         self.free.iter().position(|free| *free)
     }
 
-    // How many bytes a slot has.
+    // How many bytes a buffer has.
     pub(crate) fn room(&self) -> usize
         ensures room { result ≡ self.now.room }
-        ensures whole { IsWhole self.now }
+        ensures whole { HasWholeBuffers self.now }
     {
         self.room
     }

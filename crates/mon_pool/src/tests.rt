@@ -1,4 +1,4 @@
-//! A pool of four slots: which of them are leased, and what they hold.
+//! A pool of four buffers: which of them are leased, and what they hold.
 
 use crate::Pool;
 use std::test::Fail;

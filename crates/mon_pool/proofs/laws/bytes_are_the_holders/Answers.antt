@@ -1,4 +1,4 @@
-use Rattle.mon_pool.proofs.Slots.{are_of_written}
+use Rattle.mon_pool.proofs.Leases.{are_of_written}
 use Rattle.mon_pool.proofs.Parts.{own_bytes, others_bytes}
 use Rattle.mon_pool.proofs.laws.bytes_are_the_holders.Goals as goal
 
