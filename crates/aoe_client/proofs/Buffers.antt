@@ -1,18 +1,19 @@
 -- What the buffers hold while frames are heard.
 use Rattle.std.proofs.Common.{◌≡◌, ◌≢◌, ℕ, zero, suc, ◌+◌, ◌-◌, ◌*◌, ◌<◌, ◌≤◌, Bool, true, false, List, [], ◌∷◌, ◌++◌, length, slice_get, slice_set, Option, Some, None, refl, sym, ap, ◌∙◌, inl, inr, arith, cond}
-use Rattle.std.specs.Prelude.{nat_lt}
+use Rattle.std.specs.Prelude.{nat_lt, option_map}
 use Rattle.std.proofs.Math.ListN.{length-set}
 use Rattle.std.proofs.Math.Nat.{mul-le-mul_right}
 use Rattle.std.proofs.lemmas.Bool.{cases_eq, cases_lt, cond_below, cond_above, true≢false}
 use Rattle.std.proofs.lemmas.Option.{slice_get_within}
+use Rattle.ata_taskfile.specs.declared.registers.TheConstants.{SECTOR_BYTES}
 use Rattle.mon_pool.specs.Region.{Region, AreOf, IsOf, HasWholeBuffers, leased_bytes}
 use Rattle.mon_pool.proofs.Leases.{of_before}
 use Rattle.mon_pool.proofs.Parts.{length_bytes, length_written, part_written, part_kept, own_bytes, others_bytes, whole_written}
 use Rattle.aoe_client.specs.declared.tags.TagState.{TagState}
 use Rattle.aoe_client.specs.declared.tags.TagState.TheVariants.{Answered}
 use Rattle.aoe_client.specs.declared.tags.TheConstants.{PART_BYTES}
-use Rattle.aoe_client.specs.Fetching.{Fetching, first_tag, is_open, part, state_of, with_part, with_tag_sectors, with_tag}
-use Rattle.aoe_client.specs.Asking.{Asking, HasRoom, HasTags, heard, buffers_heard, is_open_in, lease_in, leases_of, slot_answered, slot_filled}
+use Rattle.aoe_client.specs.Fetching.{Fetching, first_tag, is_open, part, state_of, tag_answered, with_part, with_tag, with_tag_sectors}
+use Rattle.aoe_client.specs.Asking.{Asking, HasRoom, HasTags, heard, buffers_heard, lease_in, leases_of, slot_filled}
 use Rattle.aoe_client.specs.declared.client.Heard.TheVariants.{Took}
 use Rattle.aoe_client.specs.Buffers.{BothHold, Holds}
 
@@ -122,61 +123,79 @@ ready_both (Some f) (Some g) pool are room_s room_t =
 
 module _ (source : ℕ → List ℕ) (tag : ℕ) (sectors : List ℕ) (long : length sectors ≡ PART_BYTES)
     (gives : source tag ≡ sectors) where
-  filled_holds : (o : Bool) (s : Option Fetching) (pool : Region) → is_open_in tag s ≡ o → HasWholeBuffers pool → Ready s pool
-      → Holds source s pool → Holds source (slot_answered o tag s) (slot_filled o tag sectors s pool)
-  filled_holds false s pool yet whole ready holds = holds
-  filled_holds true None pool yet whole ready holds = tt
-  filled_holds true (Some f) pool yet whole ready holds = own_holds source tag sectors long gives
-      f pool whole ready.0 ready.1 yet holds
+  -- a block that is asked for, whose tag is open (true) or not
+  module _ (f : Fetching) (pool : Region) (whole : HasWholeBuffers pool) (ready : Ready (Some f) pool) where
+    filled_holds_where : (o : Bool) → is_open (state_of tag f) ≡ o → Holds source (Some f) pool
+        → Holds source (Some (cond o (with_tag Answered tag f) f)) (cond o (with_tag_sectors tag sectors f pool) pool)
+    filled_holds_where false yet holds = holds
+    filled_holds_where true yet holds = own_holds source tag sectors long gives f pool whole ready.0 ready.1 yet holds
 
-  filled_other : (o : Bool) (s t : Option Fetching) (pool : Region) → is_open_in tag s ≡ o → HasWholeBuffers pool
-      → Ready s pool → Apart s t
-      → Holds source t pool → Holds source t (slot_filled o tag sectors s pool)
-  filled_other false s t pool yet whole ready apart holds = holds
-  filled_other true None t pool yet whole ready apart holds = holds
-  filled_other true (Some f) None pool yet whole ready apart holds = tt
-  filled_other true (Some f) (Some g) pool yet whole ready apart holds =
-      other_holds source tag sectors long gives f pool whole ready.0 ready.1 yet g apart holds
+    filled_other_where : (o : Bool) (g : Fetching) → is_open (state_of tag f) ≡ o → g.lease.buffer ≢ f.lease.buffer
+        → Holds source (Some g) pool → Holds source (Some g) (cond o (with_tag_sectors tag sectors f pool) pool)
+    filled_other_where false g yet apart holds = holds
+    filled_other_where true g yet apart holds =
+        other_holds source tag sectors long gives f pool whole ready.0 ready.1 yet g apart holds
 
-  filled_whole : (o : Bool) (s : Option Fetching) (pool : Region) → is_open_in tag s ≡ o → HasWholeBuffers pool → Ready s pool
-      → HasWholeBuffers (slot_filled o tag sectors s pool)
-  filled_whole false s pool yet whole ready = whole
-  filled_whole true None pool yet whole ready = whole
-  filled_whole true (Some f) pool yet whole ready = whole_after source tag sectors long gives f
-      pool whole ready.0 ready.1 yet
+    filled_whole_where : (o : Bool) → is_open (state_of tag f) ≡ o
+        → HasWholeBuffers (cond o (with_tag_sectors tag sectors f pool) pool)
+    filled_whole_where false yet = whole
+    filled_whole_where true yet = whole_after source tag sectors long gives f pool whole ready.0 ready.1 yet
 
-  filled_ready : (o : Bool) (s t : Option Fetching) (pool : Region) → Ready t pool
-      → Ready t (slot_filled o tag sectors s pool)
-  filled_ready false s t pool ready = ready
-  filled_ready true None t pool ready = ready
-  filled_ready true (Some f) None pool ready = tt
-  filled_ready true (Some f) (Some g) pool ready = (record { base = ready.0.base; out = ready.0.out }, ready.1)
+  ready_where : (o : Bool) (f g : Fetching) (pool : Region) → Ready (Some g) pool
+      → Ready (Some g) (cond o (with_tag_sectors tag sectors f pool) pool)
+  ready_where false f g pool ready = ready
+  ready_where true f g pool ready = (record { base = ready.0.base; out = ready.0.out }, ready.1)
 
-  apart_answered : (o : Bool) (s t : Option Fetching) → Apart s t → Apart s (slot_answered o tag t)
-  apart_answered false s t apart = apart
-  apart_answered true None t apart = tt
-  apart_answered true (Some f) None apart = tt
-  apart_answered true (Some f) (Some g) apart = apart
+  apart_where : (o : Bool) (f g : Fetching) → Apart (Some f) (Some g)
+      → Apart (Some f) (Some (cond o (with_tag Answered tag g) g))
+  apart_where false f g apart = apart
+  apart_where true f g apart = apart
+
+  filled_holds : (s : Option Fetching) (pool : Region) → HasWholeBuffers pool → Ready s pool → Holds source s pool
+      → Holds source (option_map (tag_answered tag) s) (slot_filled tag sectors s pool)
+  filled_holds None pool whole ready holds = tt
+  filled_holds (Some f) pool whole ready holds =
+      filled_holds_where f pool whole ready (is_open (state_of tag f)) refl holds
+
+  filled_other : (s t : Option Fetching) (pool : Region) → HasWholeBuffers pool → Ready s pool → Apart s t
+      → Holds source t pool → Holds source t (slot_filled tag sectors s pool)
+  filled_other None t pool whole ready apart holds = holds
+  filled_other (Some f) None pool whole ready apart holds = tt
+  filled_other (Some f) (Some g) pool whole ready apart holds =
+      filled_other_where f pool whole ready (is_open (state_of tag f)) g refl apart holds
+
+  filled_whole : (s : Option Fetching) (pool : Region) → HasWholeBuffers pool → Ready s pool
+      → HasWholeBuffers (slot_filled tag sectors s pool)
+  filled_whole None pool whole ready = whole
+  filled_whole (Some f) pool whole ready = filled_whole_where f pool whole ready (is_open (state_of tag f)) refl
+
+  filled_ready : (s t : Option Fetching) (pool : Region) → Ready t pool → Ready t (slot_filled tag sectors s pool)
+  filled_ready None t pool ready = ready
+  filled_ready (Some f) None pool ready = tt
+  filled_ready (Some f) (Some g) pool ready = ready_where (is_open (state_of tag f)) f g pool ready
+
+  apart_answered : (s t : Option Fetching) → Apart s t → Apart s (option_map (tag_answered tag) t)
+  apart_answered None t apart = tt
+  apart_answered (Some f) None apart = tt
+  apart_answered (Some f) (Some g) apart = apart_where (is_open (state_of tag g)) f g apart
 
   -- both buffers hold the tag's two sectors, where they awaited them, and what they held
-  pub both_hold : (c : Asking) (pool : Region) → HasWholeBuffers pool → AreOf (leases_of c) pool → HasRoom pool.room c.demand
-      → HasRoom pool.room c.background → BothHold source c pool
+  pub both_hold : (c : Asking) (pool : Region) → HasWholeBuffers pool → AreOf (leases_of c) pool
+      → HasRoom pool.room c.demand → HasRoom pool.room c.background → BothHold source c pool
       → BothHold source (heard (Took tag) c) (buffers_heard (Took tag) sectors c pool)
   both_hold c pool whole are room_d room_b holds =
       let d = c.demand in let b = c.background in
-      let one = is_open_in tag d in let two = is_open_in tag b in
       let ready = ready_both d b pool are room_d room_b in
-      let first = slot_filled one tag sectors d pool in
-      let whole_first = filled_whole one d pool refl whole ready.0 in
-      let ready_b = filled_ready one d b pool ready.1 in (
-        filled_other two b (slot_answered one tag d) first refl whole_first ready_b
-            (apart_answered one b d (apart_back d b ready.2))
-            (filled_holds one d pool refl whole ready.0 holds.0),
-        filled_holds two b first refl whole_first ready_b
-            (filled_other one d b pool refl whole ready.0 ready.2 holds.1),
+      let first = slot_filled tag sectors d pool in
+      let whole_first = filled_whole d pool whole ready.0 in
+      let ready_b = filled_ready d b pool ready.1 in (
+        filled_other b (option_map (tag_answered tag) d) first whole_first ready_b
+            (apart_answered b d (apart_back d b ready.2))
+            (filled_holds d pool whole ready.0 holds.0),
+        filled_holds b first whole_first ready_b (filled_other d b pool whole ready.0 ready.2 holds.1),
       )
 
 -- a pool that serves a client has room for what its slots ask for
-pub has_room : (block room : ℕ) (s : Option Fetching) → HasTags block s → 512 * block ≤ room → HasRoom room s
+pub has_room : (block room : ℕ) (s : Option Fetching) → HasTags block s → SECTOR_BYTES * block ≤ room → HasRoom room s
 has_room block room None count fits = tt
 has_room block room (Some f) count fits = omega (arith, count)

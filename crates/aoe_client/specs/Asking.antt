@@ -1,14 +1,13 @@
 -- What the client asks for, and what each call does to it.
-use Rattle.std.specs.Prelude.{ℕ, ◌≡◌, ◌≤◌, ◌/◌, ◌*◌, ◌||◌, Bool, true, false, List, [], ◌∷◌, ◌++◌, length, slice_get, option_map, Option, Some, None, if◌then◌else◌}
+use Rattle.std.specs.Prelude.{ℕ, ◌≡◌, ◌≤◌, ◌/◌, ◌*◌, ◌||◌, Bool, false, List, [], ◌∷◌, ◌++◌, length, slice_get, option_map, Option, Some, None, if◌then◌else◌}
 use Rattle.std.specs.List.{list_all}
 use Rattle.mon_pool.specs.Region.{Held, Region}
 use Rattle.aoe_client.specs.declared.client.Slot.{Slot}
 use Rattle.aoe_client.specs.declared.client.Slot.TheVariants.{Demand, Background}
 use Rattle.aoe_client.specs.declared.client.Heard.{Heard}
 use Rattle.aoe_client.specs.declared.client.Heard.TheVariants.{Took, Ignored}
-use Rattle.aoe_client.specs.declared.tags.TagState.TheVariants.{Answered}
 use Rattle.aoe_client.specs.declared.tags.TheConstants.{PART_BYTES, PART_SECTORS}
-use Rattle.aoe_client.specs.Fetching.{Fetching, due_of, is_answered, is_open, tag_sent, state_of, ticked, with_tag_sectors, with_tag}
+use Rattle.aoe_client.specs.Fetching.{Fetching, due_of, is_answered, is_open, state_of, tag_answered, tag_filled, tag_sent, ticked}
 
 -- the sectors of a block, and what each slot asks for (own)
 pub record Asking : Type 0 where
@@ -39,7 +38,7 @@ abbrev pub in_slot : Slot → Asking → Option Fetching
 in_slot Demand c = c.demand
 in_slot Background c = c.background
 
--- the same, but this slot asks for this
+-- a client of which this slot asks for this, and all else is as it was
 abbrev pub with_slot : Slot → Option Fetching → Asking → Asking
 with_slot Demand f c = record c { demand = f }
 with_slot Background f c = record c { background = f }
@@ -56,7 +55,7 @@ first_due f = slice_get (due_of f) 0
 abbrev pub slot_sent : Option Fetching → Option Fetching
 slot_sent f = option_map (tag_sent (first_due f)) f
 
--- Background once the next tag is sent: its own first one, where none of Demand's is due
+-- the slot Background once the next tag is sent: its own first one, where none of Demand's is due
 abbrev pub then_sent : Option ℕ → Option Fetching → Option Fetching
 then_sent None f = slot_sent f
 then_sent (Some tag) f = f
@@ -84,15 +83,10 @@ is_open_in tag (Some f) = is_open (state_of tag f)
 abbrev pub is_awaited : ℕ → Asking → Bool
 is_awaited tag c = is_open_in tag c.demand || is_open_in tag c.background
 
--- a slot once a tag that was open in it, or not, is answered
-abbrev pub slot_answered : Bool → ℕ → Option Fetching → Option Fetching
-slot_answered false tag f = f
-slot_answered true tag f = option_map (with_tag Answered tag) f
-
--- a slot once a frame was heard: a tag that was taken is answered, where it was open in the slot
+-- a slot once a frame was heard: a tag that was taken is answered, where it was unanswered or due in the slot
 abbrev pub slot_heard : Heard → Option Fetching → Option Fetching
 slot_heard Ignored f = f
-slot_heard (Took tag) f = slot_answered (is_open_in tag f) tag f
+slot_heard (Took tag) f = option_map (tag_answered tag) f
 
 -- the client once a frame was heard
 abbrev pub heard : Heard → Asking → Asking
@@ -101,18 +95,17 @@ heard what c = record c {
   background = slot_heard what c.background;
 }
 
--- a pool once a tag's sectors are in a slot's buffer, where the tag was open in the slot
-abbrev pub slot_filled : Bool → ℕ → List ℕ → Option Fetching → Region → Region
-slot_filled false tag sectors f pool = pool
-slot_filled true tag sectors None pool = pool
-slot_filled true tag sectors (Some f) pool = with_tag_sectors tag sectors f pool
+-- a pool once a tag's two sectors are in a slot's buffer, where the tag was unanswered or due in the slot
+abbrev pub slot_filled : ℕ → List ℕ → Option Fetching → Region → Region
+slot_filled tag sectors None pool = pool
+slot_filled tag sectors (Some f) pool = tag_filled tag sectors f pool
 
--- a pool once a frame was heard: the sectors of a tag that was taken are in each buffer in which it was open
+-- a pool once a frame was heard: the two sectors of a tag that was taken are in the buffer of each slot in which the tag
+-- was unanswered or due
 abbrev pub buffers_heard : Heard → List ℕ → Asking → Region → Region
 buffers_heard Ignored sectors c pool = pool
 buffers_heard (Took tag) sectors c pool =
-    slot_filled (is_open_in tag c.background) tag sectors c.background
-    (slot_filled (is_open_in tag c.demand) tag sectors c.demand pool)
+    slot_filled tag sectors c.background (slot_filled tag sectors c.demand pool)
 
 -- what is handed over of a slot: the number and the lease, where every tag is answered
 abbrev pub done_in : Option Fetching → Option (ℕ × Held)

@@ -13,7 +13,7 @@ pub record Fetching : Type 0 where
   pub age : ℕ
   pub tags : List TagState
 
--- the first of its tags: a tag is the place of its first sector divided by 2 (own)
+-- the first of a block's tags: a tag is the place of its first sector divided by 2 (own)
 abbrev pub first_tag : Fetching → ℕ
 first_tag f = f.block * length f.tags
 
@@ -34,7 +34,7 @@ is_answered Due = false
 is_answered Unanswered = false
 is_answered Answered = true
 
--- the due ones of these tags, whose first is this one, in rising order
+-- the tags that are due, in rising order, of a list of tags whose first is this one
 abbrev pub due_from : ℕ → List TagState → List ℕ
 due_from tag [] = []
 due_from tag (Due ∷ tags) = tag ∷ due_from (tag + 1) tags
@@ -46,11 +46,11 @@ abbrev pub due_of : Option Fetching → List ℕ
 due_of None = []
 due_of (Some f) = due_from (first_tag f) f.tags
 
--- the same, but this tag stands there
+-- a block of which this tag stands so, and all else is as it was
 abbrev pub with_tag : TagState → ℕ → Fetching → Fetching
 with_tag state tag f = record f { tags = slice_set f.tags (tag - first_tag f) state }
 
--- a due tag, where there is one, is sent
+-- a block once the request for this tag, where there is one, was sent
 abbrev pub tag_sent : Option ℕ → Fetching → Fetching
 tag_sent None f = f
 tag_sent (Some tag) f = with_tag Unanswered tag f
@@ -82,7 +82,7 @@ is_open (Some Answered) = false
 abbrev pub part : ℕ → List ℕ → List ℕ
 part i bytes = take PART_BYTES (drop (i * PART_BYTES) bytes)
 
--- the same bytes, but with this part
+-- the bytes of a block with these two sectors at its i-th tag
 abbrev pub with_part : ℕ → List ℕ → List ℕ → List ℕ
 with_part i sectors bytes = written_over (i * PART_BYTES) sectors bytes
 
@@ -90,3 +90,12 @@ with_part i sectors bytes = written_over (i * PART_BYTES) sectors bytes
 abbrev pub with_tag_sectors : ℕ → List ℕ → Fetching → Region → Region
 with_tag_sectors tag sectors f pool =
     with_bytes f.lease pool (with_part (tag - first_tag f) sectors (leased_bytes f.lease pool))
+
+-- a block once this tag is answered, where it was unanswered or due
+abbrev pub tag_answered : ℕ → Fetching → Fetching
+tag_answered tag f = if is_open (state_of tag f) then with_tag Answered tag f else f
+
+-- a pool once a tag's two sectors are in the buffer, where the tag was unanswered or due
+abbrev pub tag_filled : ℕ → List ℕ → Fetching → Region → Region
+tag_filled tag sectors f pool =
+    if is_open (state_of tag f) then with_tag_sectors tag sectors f pool else pool

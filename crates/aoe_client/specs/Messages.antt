@@ -1,6 +1,7 @@
 -- The request for a tag, and what a frame has to say to be taken as its reply.
 use Rattle.std.specs.Prelude.{ℕ, ◌≡◌, ◌≢◌, ◌≤◌, ◌*◌, bit_and, List, [], length, take, drop}
-use Rattle.aoe_frame.specs.declared.addresses.TheConstants.{CLIENT, SERVER, MAJOR, MINOR}
+use Rattle.ata_taskfile.specs.declared.registers.TheConstants.{READ_SECTORS_EXT}
+use Rattle.aoe_frame.specs.declared.addresses.TheConstants.{CLIENT, MAJOR, MINOR, SERVER}
 use Rattle.aoe_frame.specs.declared.message.TheConstants.{ATA, BODY_AT, EXTENDED, FAILED, REPLY, VERSION}
 use Rattle.aoe_frame.specs.declared.message.Header.{Header}
 use Rattle.aoe_frame.specs.declared.message.AtaPart.{AtaPart}
@@ -9,7 +10,6 @@ use Rattle.aoe_frame.specs.declared.message.Argument.TheVariants.{Ata, Config, O
 use Rattle.aoe_frame.specs.declared.message.Aoe.{Aoe}
 use Rattle.aoe_frame.specs.Layout.{frame_of}
 use Rattle.aoe_frame.specs.Reading.{IsMessage}
-use Rattle.image_server.specs.declared.request.TheConstants.{READ_EXTENDED}
 use Rattle.image_server.specs.declared.reply.TheConstants.{GOOD_STATUS}
 use Rattle.aoe_client.specs.declared.tags.TheConstants.{PART_BYTES, PART_SECTORS}
 
@@ -35,13 +35,13 @@ request_for tag = record {
     flags = EXTENDED;
     feature = 0;
     count = PART_SECTORS;
-    command = READ_EXTENDED;
+    command = READ_SECTORS_EXT;
     lba = first_sector tag;
     body = [];
   });
 }
 
--- the frame of that request
+-- the frame of the request for a tag
 abbrev pub request_frame : ℕ → List ℕ
 request_frame tag = frame_of (request_for tag)
 
@@ -64,7 +64,7 @@ pub record IsReplyPart (a : AtaPart) (tag : ℕ) : Type 0 where
   pub lba : a.lba ≡ first_sector tag
   pub body : PART_BYTES ≤ length a.body
 
--- the same of any argument: none but an ATA argument answers
+-- an argument answers the request for a tag: none but an ATA argument does
 abbrev pub IsReplyArgument : Argument → ℕ → Type 0
 IsReplyArgument (Ata a) tag = IsReplyPart a tag
 IsReplyArgument (Config c) tag = ⊥
@@ -76,7 +76,7 @@ pub record IsAnswer (m : Aoe) (tag : ℕ) : Type 0 where
   pub same : m.header.tag ≡ tag
   pub argument : IsReplyArgument m.argument tag
 
--- a frame answers a tag: it says a message that does
+-- a frame answers a tag: it says a message that answers it
 abbrev pub Answers : List ℕ → ℕ → Type 0
 Answers frame tag = (m : Aoe) × (IsMessage frame m × IsAnswer m tag)
 

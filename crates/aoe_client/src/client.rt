@@ -3,18 +3,20 @@
 ghost use Rattle.std.specs.Prelude.{◌≡◌, ◌+◌, ◌*◌, ◌<◌, ◌≤◌, ◌^◌, ◌↔◌, ℕ, List, IfErr, IfSome, IsErr, IsSome, OnErr, OnOk, None, Some, is_some, length, true, option_map, slice_get, if◌then◌else◌};
 ghost use Rattle.mon_pool.specs.Region.{AreOf, Region, all_given};
 ghost use Rattle.fill_bitmap.specs.Area.{IsBlock};
-ghost use Rattle.aoe_client.specs.Asking.{Asking, both_ticked, buffers_heard, done_in, due_tags, heard, in_slot, is_awaited, leases_of, next_sent, nothing_asked, tags_in, with_slot};
+ghost use Rattle.aoe_client.specs.Asking.{Asking, HasTags, both_ticked, buffers_heard, done_in, due_tags, heard, in_slot, is_awaited, leases_of, next_sent, nothing_asked, tags_in, with_slot};
 ghost use Rattle.aoe_client.specs.Buffers.{BothHold, SourceGives, Holds, IsFetched};
 ghost use Rattle.aoe_client.specs.Fetching.{asked_for};
 ghost use Rattle.aoe_client.specs.Messages.{Answers, request_frame, sectors_carried};
 
 use crate::fetch::Fetch;
 use crate::messages::{answered_by, request};
-use crate::slot::{due_in, end_slot, fill, hear_in, send_in, take_done, tick_slot};
+use crate::slot::{due_in, end_slot, hear_in, send_in, tick_slot};
 use crate::tags::{PART_BYTES, PART_SECTORS};
 use aoe_frame::{BODY_AT, Frame};
+use ata_taskfile::registers::SECTOR_BYTES;
 use mon_pool::{Lease, Pool, a_pool_is_whole};
 use std::marker::Model;
+use std::mem;
 
 /// The two things that a block is asked for.
 #[derive(Clone, Copy, Debug, PartialEq, Eq)]
@@ -83,25 +85,21 @@ impl Client {
         ensures back { IfErr result (λ refused. refused.0 ≡ lease) }
         ensures unchanged { OnErr result (self.new ≡ self.old) }
     {
-        if self.asked(slot).is_some() {
+        if self.in_slot(slot).is_some() {
             return Err((lease, Full));
         }
         let fetch = Fetch::new(block, self.block as usize / PART_SECTORS as usize, lease);
-        match slot {
-            Slot::Demand => fill(&mut self.demand, fetch),
-            Slot::Background => fill(&mut self.background, fetch),
+        match self.replace(slot, Some(fetch)) {
+            None => Ok(()),
+            Some(_other) => unreachable!(),
         }
-        Ok(())
     }
 
     /// The number of the slot's block; None exactly where the slot is free.
     pub fn asked(&self, slot: Slot) -> Option<u32>
         ensures { result ≡ option_map (λ fetch. fetch.block) (in_slot slot self.now) }
     {
-        match slot {
-            Slot::Demand => Some(self.demand.as_ref()?.block()),
-            Slot::Background => Some(self.background.as_ref()?.block()),
-        }
+        Some(self.in_slot(slot).as_ref()?.block())
     }
 
     /// The k-th due tag, from 0, in the order in which they are sent; None exactly where at most `k` are due.
@@ -134,10 +132,10 @@ impl Client {
     }
 
     /// Hears a frame. It is taken for a tag exactly where it answers the tag, and the tag is unanswered or due: its two
-    /// sectors are then in each buffer that awaited them.
+    /// sectors are then in the buffer of each slot in which it was so.
     pub fn frame_in(&mut self, pool: &mut Pool, frame: &Frame) -> Heard
         requires of_pool { AreOf (leases_of self.old) pool.old }
-        requires room { 512 * self.old.block ≤ pool.old.room }
+        requires room { SECTOR_BYTES * self.old.block ≤ pool.old.room }
         ensures took { (tag : ℕ) → (result ≡ Heard.Took tag)
             ↔ (Answers frame.now tag × (is_awaited tag self.old ≡ true)) }
         ensures after { self.new ≡ heard result self.old }
@@ -168,10 +166,11 @@ impl Client {
             Holds source (in_slot slot self.old) pool →
             IfSome result (IsFetched source (tags_in self.old.block) pool) }
     {
-        match slot {
-            Slot::Demand => take_done(&mut self.demand),
-            Slot::Background => take_done(&mut self.background),
+        if !self.in_slot(slot).as_ref()?.is_answered() {
+            return None;
         }
+        let fetch = self.replace(slot, None)?;
+        Some((fetch.block(), fetch.end()))
     }
 
     /// Gives up what the slot asks for, and hands its lease back; None exactly where the slot is free.
@@ -179,10 +178,7 @@ impl Client {
         ensures lease { result ≡ option_map (λ fetch. fetch.lease) (in_slot slot self.old) }
         ensures after { self.new ≡ with_slot slot None self.old }
     {
-        match slot {
-            Slot::Demand => Some(self.demand.take()?.end()),
-            Slot::Background => Some(self.background.take()?.end()),
-        }
+        Some(self.replace(slot, None)?.end())
     }
 
     /// Gives every lease that the client holds back to its pool.
@@ -199,10 +195,33 @@ impl Client {
         end_slot(background, pool);
     }
 
-    // The two sectors of a tag go into each buffer that awaits them; false where none does.
+    // What the slot asks for.
+    fn in_slot(&self, slot: Slot) -> &Option<Fetch>
+        ensures asks { result.now ≡ in_slot slot self.now }
+        ensures tags { HasTags self.now.block result.now }
+    {
+        match slot {
+            Slot::Demand => &self.demand,
+            Slot::Background => &self.background,
+        }
+    }
+
+    // Has the slot ask for this, and hands over what it asked for.
+    fn replace(&mut self, slot: Slot, fetch: Option<Fetch>) -> Option<Fetch>
+        requires tags { HasTags self.old.block fetch }
+        ensures before { result ≡ in_slot slot self.old }
+        ensures after { self.new ≡ with_slot slot fetch self.old }
+    {
+        match slot {
+            Slot::Demand => mem::replace(&mut self.demand, fetch),
+            Slot::Background => mem::replace(&mut self.background, fetch),
+        }
+    }
+
+    // The two sectors of a tag go into the buffer of each slot in which it is unanswered or due; false where in neither.
     fn hear(&mut self, pool: &mut Pool, tag: u32, sectors: &[u8]) -> bool
         requires of_pool { AreOf (leases_of self.old) pool.old }
-        requires room { 512 * self.old.block ≤ pool.old.room }
+        requires room { SECTOR_BYTES * self.old.block ≤ pool.old.room }
         requires sectors { length sectors.now ≡ PART_BYTES }
         ensures awaited { result ≡ is_awaited tag self.old }
         ensures after { self.new ≡ heard (Heard.Took tag) self.old }

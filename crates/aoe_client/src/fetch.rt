@@ -1,16 +1,16 @@
 //! One block that is asked for.
 
-ghost use Rattle.std.specs.Prelude.{◌≡◌, ◌+◌, ◌*◌, ◌<◌, ◌≤◌, ◌^◌, ◌-◌, IfSome, is_some, length, slice_get, if◌then◌else◌};
+ghost use Rattle.std.specs.Prelude.{◌≡◌, ◌+◌, ◌*◌, ◌<◌, ◌≤◌, ◌^◌, ◌-◌, IfSome, is_some, length, slice_get};
 ghost use Rattle.std.specs.List.{list_all};
 ghost use Rattle.mon_pool.specs.Region.{IsOf};
-ghost use Rattle.aoe_client.specs.Fetching.{Fetching, asked_for, due_from, first_tag, is_answered, is_open, tag_sent, state_of, ticked, with_part, with_tag_sectors, with_tag};
+ghost use Rattle.aoe_client.specs.Fetching.{Fetching, asked_for, due_from, first_tag, is_answered, is_open, state_of, tag_answered, tag_filled, tag_sent, ticked, with_part};
 
 use crate::tags::{PART_BYTES, RESEND_AGE, TagState, all_answered, count_due, make_due, nth_due};
 use arrayvec::ArrayVec;
 use mon_pool::{Lease, Pool};
 use std::marker::Model;
 
-// The most tags that a block has (own).
+// The most tags that a block has: those of 64 sectors (own).
 const MOST_TAGS: usize = 32;
 
 // A contract sees the lease, the block's number, the age, and where each tag stands (`Fetching`).
@@ -119,16 +119,14 @@ impl Fetch {
         all_answered(self.tags.as_slice())
     }
 
-    // Takes the two sectors of a tag that is unanswered or due; false exactly where the tag is none of these.
+    // Takes the two sectors of a tag that is unanswered or due; false exactly where the tag is neither.
     pub(crate) fn hear(&mut self, pool: &mut Pool, tag: u32, sectors: &[u8]) -> bool
         requires of_pool { IsOf self.old.lease pool.old }
         requires room { length self.old.tags * PART_BYTES ≤ pool.old.room }
         requires sectors { length sectors.now ≡ PART_BYTES }
         ensures open { result ≡ is_open (state_of tag self.old) }
-        ensures after { self.new
-            ≡ (if result then with_tag TagState.Answered tag self.old else self.old) }
-        ensures pool { pool.new
-            ≡ (if result then with_tag_sectors tag sectors.now self.old pool.old else pool.old) }
+        ensures after { self.new ≡ tag_answered tag self.old }
+        ensures pool { pool.new ≡ tag_filled tag sectors.now self.old pool.old }
     {
         let Some(place) = self.open_place(tag) else {
             return false;

@@ -5,10 +5,11 @@ ghost use Rattle.aoe_client.specs.Messages.{Answers, IsAnswer, IsReplyPart, IsRe
 
 use crate::tags::{PART_BYTES, PART_SECTORS};
 use aoe_frame::{
-    ATA, Aoe, Argument, AtaPart, BODY_AT, Bytes, CLIENT, EXTENDED, FAILED, Frame, Header, REPLY,
-    SERVER, MAJOR, MINOR, VERSION, parse, write,
+    ATA, Aoe, Argument, AtaPart, BODY_AT, Bytes, CLIENT, EXTENDED, FAILED, Frame, Header, MAJOR,
+    MINOR, REPLY, SERVER, VERSION, parse, write,
 };
-use image_server::{GOOD_STATUS, READ_EXTENDED};
+use ata_taskfile::registers::READ_SECTORS_EXT;
+use image_server::GOOD_STATUS;
 
 // The request for a tag.
 pub(crate) fn request(tag: u32) -> Frame
@@ -30,7 +31,7 @@ pub(crate) fn request(tag: u32) -> Frame
             flags: EXTENDED,
             feature: 0,
             count: PART_SECTORS,
-            command: READ_EXTENDED,
+            command: READ_SECTORS_EXT,
             lba: first_sector(tag),
             body: Bytes::new(),
         }),

@@ -1,13 +1,13 @@
 //! What a slot asks for, where it asks for a block.
 
-ghost use Rattle.std.specs.Prelude.{◌≡◌, ◌++◌, None, Some, is_some, length, option_map, slice_get, if◌then◌else◌};
+ghost use Rattle.std.specs.Prelude.{◌≡◌, ◌++◌, length, option_map, slice_get};
 ghost use Rattle.mon_pool.specs.Region.{AreOf, all_given};
-ghost use Rattle.aoe_client.specs.Asking.{HasRoom, done_in, first_due, is_open_in, lease_in, slot_answered, slot_filled, slot_sent};
-ghost use Rattle.aoe_client.specs.Fetching.{due_of, ticked};
+ghost use Rattle.aoe_client.specs.Asking.{HasRoom, first_due, is_open_in, lease_in, slot_filled, slot_sent};
+ghost use Rattle.aoe_client.specs.Fetching.{due_of, tag_answered, ticked};
 
 use crate::fetch::Fetch;
 use crate::tags::PART_BYTES;
-use mon_pool::{Lease, Pool};
+use mon_pool::Pool;
 
 // The k-th due tag of two slots, the first slot's before the second's.
 pub(crate) fn due_in(first: &Option<Fetch>, second: &Option<Fetch>, k: usize) -> Option<u32>
@@ -39,37 +39,14 @@ fn count_due(slot: &Option<Fetch>) -> usize
     }
 }
 
-// Puts a block that is asked for into a free slot.
-pub(crate) fn fill(slot: &mut Option<Fetch>, fetch: Fetch)
-    requires { slot.old ≡ None }
-    ensures { slot.new ≡ Some fetch }
-{
-    match slot.replace(fetch) {
-        None => {}
-        Some(_other) => unreachable!(),
-    }
-}
-
-// Takes what the slot asked for out of it, where all of it is answered.
-pub(crate) fn take_done(slot: &mut Option<Fetch>) -> Option<(u32, Lease)>
-    ensures fetched { result ≡ done_in slot.old }
-    ensures after { slot.new ≡ (if is_some result then None else slot.old) }
-{
-    if !slot.as_ref()?.is_answered() {
-        return None;
-    }
-    let fetch = slot.take()?;
-    Some((fetch.block(), fetch.end()))
-}
-
-// Takes the two sectors of a tag, where it is unanswered or due in the slot; else it is false.
+// Takes the two sectors of a tag that is unanswered or due in the slot; false exactly where it is neither.
 pub(crate) fn hear_in(slot: &mut Option<Fetch>, pool: &mut Pool, tag: u32, sectors: &[u8]) -> bool
     requires of_pool { AreOf (lease_in slot.old) pool.old }
     requires room { HasRoom pool.old.room slot.old }
     requires sectors { length sectors.now ≡ PART_BYTES }
     ensures open { result ≡ is_open_in tag slot.old }
-    ensures after { slot.new ≡ slot_answered result tag slot.old }
-    ensures buffer { pool.new ≡ slot_filled result tag sectors.now slot.old pool.old }
+    ensures after { slot.new ≡ option_map (tag_answered tag) slot.old }
+    ensures buffer { pool.new ≡ slot_filled tag sectors.now slot.old pool.old }
 {
     match slot {
         Some(fetch) => fetch.hear(pool, tag, sectors),

@@ -4,11 +4,13 @@ ghost use Rattle.std.specs.Prelude.{◌≡◌, ◌+◌, ◌<◌, ◌≤◌, ◌^
 ghost use Rattle.std.specs.List.{list_all};
 ghost use Rattle.aoe_client.specs.Fetching.{due_again, due_from, is_answered, is_due};
 
+use ata_taskfile::registers::SECTOR_BYTES;
+
 /// The sectors of a tag (own).
 pub const PART_SECTORS: u8 = 2;
 
 /// The bytes of a tag's sectors (own).
-pub const PART_BYTES: usize = 1024;
+pub const PART_BYTES: usize = PART_SECTORS as usize * SECTOR_BYTES;
 
 /// How many ticks after its asking a slot's unanswered tags are due again (own).
 pub const RESEND_AGE: u8 = 4;
@@ -19,7 +21,7 @@ pub enum TagState {
     /// Its request is to be sent.
     #[default]
     Due,
-    /// Its request was sent, and no reply was taken.
+    /// Its request was sent, and no reply was taken since.
     Unanswered,
     /// A reply was taken.
     Answered,
@@ -52,7 +54,7 @@ pub(crate) fn count_due(tags: &[TagState]) -> usize
         .count()
 }
 
-// All that are unanswered are due again.
+// All tags that are unanswered are due again.
 pub(crate) fn make_due(tags: &mut [TagState])
     ensures { tags.new ≡ map due_again tags.old }
 {

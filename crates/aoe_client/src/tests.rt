@@ -39,7 +39,7 @@ fn asking(rt: &impl Abort, pool: &mut Pool) -> Client
     ensures room { pool.new.room ≡ pool.old.room }
 {
     let mut client = Client::new(8);
-    let lease = pool.take().expect(rt, "a free slot");
+    let lease = pool.take().expect(rt, "a free buffer");
     match client.ask(Slot::Demand, 0, lease) {
         Ok(()) => client,
         Err(_refused) => unreachable!(),
@@ -77,7 +77,7 @@ fn a_block_is_asked_for(rt: HostRuntime) -> Result<(), Fail> {
     let mut pool = Pool::new(rt.alloc(), 1, 4096)?;
     let mut other = Pool::new(rt.alloc(), 1, 4096)?;
     let mut client = asking(&rt, &mut pool);
-    let lease = other.take().expect(&rt, "a free slot");
+    let lease = other.take().expect(&rt, "a free buffer");
     refuse(&mut client, &mut other, lease);
     assert_sends(&rt, &mut client, &[(0, 0), (1, 2), (2, 4), (3, 6)]);
     client.end(&mut pool);

@@ -1,5 +1,5 @@
 //! Frames by hand from the layout (AoE r11), as hexadecimal with a space between two fields: destination, source,
-//! type, version and flags, error, shelf, slot, command and tag, and then the argument.
+//! type, version and flags, error, major and minor address, command and tag, and then the argument.
 
 ghost use Rattle.std.specs.Prelude.{◌≡◌};
 ghost use Rattle.aoe_frame.specs.Layout.{ArgumentFits, AtaFits, HeaderFits, IsWritable};

@@ -79,7 +79,7 @@ const READS: [(&str, &str, u8, u8); 4] = [
         7,
         1,
     ),
-    // All shelves and slots.
+    // Every major and minor address.
     (
         "ffffffffffff 0a0b0c0d0e0f 88a2 10 00 ffff ff 00 12345678 40 00 01 24 000000000000 0000",
         "0a0b0c0d0e0f 020000000002 88a2 18 00 0001 01 00 12345678 40 00 01 50 000000000000 0000",
@@ -165,8 +165,8 @@ fn requests_without_sectors(rt: HostRuntime) -> Result<(), Fail> {
     Ok(())
 }
 
-// Frames that get no reply: cut, of another type, a reply, of another shelf, of another slot, and two of another
-// version.
+// Frames that get no reply: cut, of another type, a reply, of another major and of another minor address, and two of
+// another version.
 #[test]
 fn each_silence(rt: HostRuntime) -> Result<(), Fail> {
     let cases = [

@@ -1,5 +1,5 @@
 use Rattle.std.proofs.Common.{◌≡◌, ap, ◌∙◌}
-use Rattle.aoe_client.specs.Asking.{Asking, is_open_in, slot_answered, slot_filled}
+use Rattle.aoe_client.specs.Asking.{Asking, slot_filled}
 use Rattle.aoe_client.proofs.Buffers.{both_hold, has_room}
 use Rattle.aoe_client.proofs.client.Client.hear.Goals as goal
 
@@ -9,19 +9,12 @@ returns-clause-kept c source gives holds =
     let s = c.self.inside in
     let here : Asking = record { block = s.block; demand = s.demand; background = s.background } in
     let one = c.hear_in-demand.ensures in let two = c.hear_in-background.ensures in
-    let d : c.hear_in-demand.new.slot ≡ slot_answered (is_open_in tag s.demand) tag s.demand =
-    one.after ∙ ap (λ yet. slot_answered yet tag s.demand) one.open in
-    let b : c.hear_in-background.new.slot ≡ slot_answered (is_open_in tag s.background) tag s.background =
-    two.after ∙ ap (λ yet. slot_answered yet tag s.background) two.open in
-    let p : c.hear_in-demand.new.pool ≡ slot_filled (is_open_in tag s.demand) tag sectors s.demand pool =
-    one.buffer ∙ ap (λ yet. slot_filled yet tag sectors s.demand pool) one.open in
-    let q : c.hear_in-background.new.pool ≡ slot_filled (is_open_in tag s.background) tag sectors
-    s.background c.hear_in-demand.new.pool =
-    two.buffer ∙ ap (λ yet. slot_filled yet tag sectors s.background c.hear_in-demand.new.pool) two.open in
+    let q : c.hear_in-background.new.pool ≡ slot_filled tag sectors s.background (slot_filled tag sectors s.demand pool) =
+    two.buffer ∙ ap (slot_filled tag sectors s.background) one.buffer in
     let of_pool = rw (← c.self.view_is) at c.requires.of_pool in
     let room = rw (← c.self.view_is) at c.requires.room in
     let held = rw (← c.self.view_is) at holds in
-    rw (d, b, q, p) (both_hold source tag sectors c.requires.sectors gives here pool c.a_pool_is_whole.ensures of_pool
+    rw (one.after, two.after, q) (both_hold source tag sectors c.requires.sectors gives here pool c.a_pool_is_whole.ensures of_pool
     (has_room s.block pool.room s.demand c.self.invariant.1 room)
     (has_room s.block pool.room s.background c.self.invariant.2 room)
     held)
