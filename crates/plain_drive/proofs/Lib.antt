@@ -12,3 +12,5 @@ pub mod Standing
 pub mod EndsOfEnds
 pub mod Seen
 pub mod Accesses
+pub mod Dressed
+pub mod Likeness

@@ -7,3 +7,4 @@ pub mod Cut
 pub mod Physical
 pub mod Laws
 pub mod Seen
+pub mod Alike

@@ -6,11 +6,14 @@
 //! access is a definition of `ata_taskfile`; `specs/Words.antt` has many words through Data, and `specs/Identify.antt`
 //! those of IDENTIFY DEVICE. `specs/Physical.antt` has a drive that keeps its sectors behind a write cache; its whole
 //! runs are those of `plain_run`. `specs/Seen.antt` has the steps, destages and power cuts of such a drive as they
-//! are seen without its cache, and the laws in `caching` show that a physical drive makes exactly these. The functions
-//! below are laws that show what the other definitions mean, in that order; `docs/drive.md` has the same as tables.
+//! are seen without its cache, and the laws in `caching` show that a physical drive makes exactly these.
+//! `specs/Alike.antt` says when a guest can't tell two drives apart, and the laws in `alike` show that no access and no
+//! step tells. The functions below are laws that show what the other definitions mean, in that order; `docs/drive.md`
+//! has the same as tables.
 
 #![tactic(auto)]
 
+mod alike;
 mod caching;
 
 ghost use Rattle.std.specs.Prelude.{◌≡◌, ◌≢◌, ◌↔◌, ◌<◌, ℕ, List, [], map, replicate, length, slice_index_or, false};
@@ -30,6 +33,10 @@ ghost use Rattle.plain_drive.specs.Identify.{identity};
 ghost use Rattle.plain_drive.specs.Step.{step_made, bad_step, acts};
 ghost use Rattle.plain_drive.specs.Physical.{Physical, StandsFor, fresh, physical_at_power_on, physical_accessed, physical_step, physical_destaged, physical_cut};
 
+pub use alike::{
+    accesses_keep_drives_alike, alike_drives_answer_alike, likeness_is_mutual,
+    nothing_looks_at_the_last_command, steps_keep_drives_alike,
+};
 pub use caching::{a_physical_drive_is_seen, ends_of_cells_are_kept};
 
 /// A value that is written is the current one of its sector, and the other sectors keep all of theirs.
