@@ -9,6 +9,9 @@ mod numbers;
 mod pairs;
 mod reader;
 
+ghost use Rattle.std.specs.Prelude.{◌≡◌, ℕ, List};
+ghost use Rattle.run_words.specs.Options.{Choice, Says};
+
 pub use reader::read_options;
 
 /// Whether a deployment begins or goes on.
@@ -50,6 +53,11 @@ pub struct Options<'a> {
     /// Leases of the monitor's own memory.
     pub pool: u64,
 }
+
+/// Words say one choice at most.
+pub fn words_say_one_choice()
+    ensures once { (words : List (List ℕ)) (a b : Choice) → Says words a → Says words b → a ≡ b }
+{}
 
 #[cfg(test)]
 mod tests;
