@@ -16,7 +16,7 @@ use Rattle.plain_run.proofs.Named.{only_named, run_whole}
 use Rattle.bmcast.specs.declared.streams.Streams.{Streams}
 use Rattle.bmcast.specs.Streams.{unread, Appends, KeepsSaid}
 use Rattle.bmcast.specs.Played.{HasPlayed, HasEnded, HasFailed}
-use Rattle.bmcast.specs.Run.{IsReady, IsReported, IsStopped, WasRun, IsDone, IsBadLine, RunIsBad, drive_over, drives_over, sectors_of_disk}
+use Rattle.bmcast.specs.Run.{IsOpened, IsReported, IsStopped, WasRun, DoneRun, BadLineRun, RunIsBad, drive_over, drives_over, sectors_of_disk}
 use Rattle.schedule_text.specs.declared.LineFault.{LineFault}
 use Rattle.bmcast.specs.Kept.{IsLeft, KeepsAllFiles, KeepsFiles, KeepsFilesBut, LeavesFiles}
 use Rattle.bmcast.specs.declared.Status.TheVariants as status
@@ -24,7 +24,7 @@ use Rattle.bmcast.proofs.Told.{IfTold-weaker, IfTold-all, IfTold-same}
 use Rattle.bmcast.proofs.WaitingLaws.{Waits-none, Waits-all}
 
 -- before the first line
-played_none : (s : Streams) (o : Outside) (p : Physical) → IsReady o → s.pending.items ≡ [] → s.at ≡ s.end
+played_none : (s : Streams) (o : Outside) (p : Physical) → IsOpened o → s.pending.items ≡ [] → s.at ≡ s.end
     → HasPlayed p s o p 1
 played_none s o p ready none taken = record {
   entries = [];
@@ -44,7 +44,7 @@ played_none s o p ready none taken = record {
 
 -- the schedule was played, and its report written
 pub reported : (s0 s1 s2 s3 : Streams) (o0 o1 o2 o3 : Outside) (before after : Physical) (number : ℕ)
-    → IsReady o0 → s0.pending.items ≡ [] → s0.at ≡ s0.end
+    → IsOpened o0 → s0.pending.items ≡ [] → s0.at ≡ s0.end
     → ((start : Physical) → HasPlayed start s0 o0 before 1 → HasEnded start s1 o1 after number)
     → o1.told Schedule ≡ o0.told Schedule
     → Appends s1 s2 o1 o2 (end_text number) → KeepsSaid s2 s3 o2 o3 → s3.pending.items ≡ []
@@ -62,7 +62,7 @@ reported s0 s1 s2 s3 o0 o1 o2 o3 before after number ready none taken ended same
 
 -- the schedule was played to its first bad line, and the report before it is written
 pub stopped : (s0 s1 : Streams) (o0 o1 : Outside) (before after : Physical) (number : ℕ) (kind : LineFault)
-    → IsReady o0 → s0.pending.items ≡ [] → s0.at ≡ s0.end
+    → IsOpened o0 → s0.pending.items ≡ [] → s0.at ≡ s0.end
     → ((start : Physical) → HasPlayed start s0 o0 before 1 → HasFailed start s1 o1 after number kind)
     → o1.told Schedule ≡ o0.told Schedule → s1.pending.items ≡ []
     → IsStopped o0 o1 before after number kind
@@ -125,7 +125,7 @@ pub done : (o1 o2 o3 o4 o5 : Outside) (before after : Physical) (memory : ℕ)
     → LeavesFiles status.Done o1 o2 → SameBytes o2 o3 → KeepsFiles o3 o4 → KeepsFilesBut Out o4 o5
     → IsLoaded memory o2 before → IsReported o3 o4 before after
     → IfTold (o5.told Out) (λ out. out ≡ concat after.kept.durable)
-    → IsDone memory o1 o5
+    → DoneRun memory o1 o5
 done o1 o2 o3 o4 o5 before after memory left loaded played written was told out =
     let plain = beside memory before after told.entries was.began told.run in
     let run = subst (λ start. IsDriveRun start told.entries after) was.began told.run in
@@ -145,7 +145,7 @@ done o1 o2 o3 o4 o5 before after memory left loaded played written was told out 
 -- the same up to a bad line
 pub bad_line : (o1 o2 o3 o4 : Outside) (before after : Physical) (memory number : ℕ) (kind : LineFault)
     → LeavesFiles status.Done o1 o2 → SameBytes o2 o3 → IsLoaded memory o2 before
-    → IsStopped o3 o4 before after number kind → IsBadLine memory o1 o4 number kind
+    → IsStopped o3 o4 before after number kind → BadLineRun memory o1 o4 number kind
 bad_line o1 o2 o3 o4 before after memory number kind left loaded was told = record {
   was = was_run memory o1 o2 before after told.entries left was told.run;
   schedule = IfTold-same _ (loaded.told Schedule ∙ left Schedule read_schedule) told.schedule;
@@ -163,7 +163,7 @@ was_run_from memory o0 o1 kept was = record {
   run = was.run;
 }
 
-pub done_from : (memory : ℕ) (o0 o1 o5 : Outside) → KeepsAllFiles o0 o1 → IsDone memory o1 o5 → IsDone memory o0 o5
+pub done_from : (memory : ℕ) (o0 o1 o5 : Outside) → KeepsAllFiles o0 o1 → DoneRun memory o1 o5 → DoneRun memory o0 o5
 done_from memory o0 o1 o5 kept done = record {
   was = was_run_from memory o0 o1 kept done.was;
   schedule = IfTold-same _ (kept Schedule) done.schedule;
@@ -175,7 +175,7 @@ done_from memory o0 o1 o5 kept done = record {
 }
 
 pub bad_line_since : (memory : ℕ) (o0 o1 o4 : Outside) (number : ℕ) (kind : LineFault) → KeepsAllFiles o0 o1
-    → IsBadLine memory o1 o4 number kind → IsBadLine memory o0 o4 number kind
+    → BadLineRun memory o1 o4 number kind → BadLineRun memory o0 o4 number kind
 bad_line_since memory o0 o1 o4 number kind kept bad = record {
   was = was_run_from memory o0 o1 kept bad.was;
   schedule = IfTold-same _ (kept Schedule) bad.schedule;

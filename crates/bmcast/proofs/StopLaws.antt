@@ -9,7 +9,7 @@ use Rattle.bm_host.proofs.OutsideLaws.{same_counts_trans, only_rose_after, same_
 use Rattle.bmcast.specs.declared.stop.Stop.{Stop}
 use Rattle.bmcast.specs.declared.stop.Stop.TheVariants as stop
 use Rattle.bmcast.specs.Stop.{Stopped, OnBadLine, UnlessFault}
-use Rattle.bmcast.specs.Status.{OnlyConsole, HasItsCause, IsTold, OnBadLineStatus, UnlessDone, status_of}
+use Rattle.bmcast.specs.Status.{OnlyConsole, HasItsCause, ConsoleSays, OnBadLineStatus, UnlessDone, status_of}
 use Rattle.bmcast.specs.Kept.{IsLeft, LeavesFiles, SameConsole}
 use Rattle.bmcast.specs.declared.Status.{Status}
 use Rattle.bmcast.specs.declared.Status.TheVariants as status
@@ -89,7 +89,7 @@ console_until other a b same = let e = same.writes Console in omega arith
 
 -- what was told on Console after a run stopped was told since the run began
 pub told_since : (text : List ℕ) (a b c : Outside) (why : Stop) → Stopped why a b → SameConsole a b
-    → IsTold text b c → IsTold text a c
+    → ConsoleSays text b c → ConsoleSays text a c
 told_since text a b c why stopped same (inl all) =
     inl (subst (λ o. Becomes (λ before after. after ≡ before ++ text) o (c.told Console)) same all)
 told_since text a b c why stopped same (inr part) =

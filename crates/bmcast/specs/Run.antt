@@ -14,7 +14,7 @@ use Rattle.plain_run.specs.Written.{is_named}
 use Rattle.bmcast.specs.Chosen.{Chosen}
 
 -- no event is read yet: nothing of the schedule is taken, and report and out are empty
-pub record IsReady (o : Outside) : Type 0 where
+pub record IsOpened (o : Outside) : Type 0 where
   pub given : o.given Schedule ≡ 0
   pub report : IfTold (o.told Report) (λ bytes. bytes ≡ [])
   pub out : IfTold (o.told Out) (λ bytes. bytes ≡ [])
@@ -64,7 +64,7 @@ pub record WasRun (memory : ℕ) (old : Outside) : Type 0 where
   pub run : IsDirectRun (drives_over memory sectors) entries end
 
 -- the run is done, from the outside before it to that after it:
-pub record IsDone (memory : ℕ) (old new : Outside) : Type 0 where
+pub record DoneRun (memory : ℕ) (old new : Outside) : Type 0 where
   pub was : WasRun memory old
   -- the schedule was read to its line `end` and the end of input, and these are its events
   pub schedule : IfTold (old.told Schedule) (λ text. IsSchedule text (events_of was.entries))
@@ -79,7 +79,7 @@ pub record IsDone (memory : ℕ) (old new : Outside) : Type 0 where
       → slice_index_or was.end.physical.kept.durable s [] ≡ slice_index_or was.sectors s []
 
 -- the run ended at a bad line, whose number and kind are those of the schedule's first:
-pub record IsBadLine (memory : ℕ) (old new : Outside) (number : ℕ) (kind : LineFault) : Type 0 where
+pub record BadLineRun (memory : ℕ) (old new : Outside) (number : ℕ) (kind : LineFault) : Type 0 where
   pub was : WasRun memory old
   -- the lines before it are those of these events, and it is the first that isn't one, for this fault
   pub schedule : IfTold (old.told Schedule)
@@ -89,9 +89,9 @@ pub record IsBadLine (memory : ℕ) (old new : Outside) (number : ℕ) (kind : L
 
 -- the run that the words choose is done
 abbrev pub RunIsDone : List (List ℕ) → Outside → Outside → Type 0
-RunIsDone words old new = Chosen words (λ choice. IsDone choice.sizes.memory old new)
+RunIsDone words old new = Chosen words (λ choice. DoneRun choice.sizes.memory old new)
 
 -- the run that the words choose ended at a bad line
 abbrev pub RunIsBad : List (List ℕ) → Outside → Outside → ℕ → LineFault → Type 0
 RunIsBad words old new number kind =
-    Chosen words (λ choice. IsBadLine choice.sizes.memory old new number kind)
+    Chosen words (λ choice. BadLineRun choice.sizes.memory old new number kind)

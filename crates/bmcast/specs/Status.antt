@@ -19,8 +19,8 @@ pub record OnlyConsole (old new : Outside) : Type 0 where
   pub console : old.write_faults Console ≤ new.write_faults Console
 
 -- this text was appended to Console; or a prefix of it, and the count of Console's writes rose
-abbrev pub IsTold : List ℕ → Outside → Outside → Type 0
-IsTold text old new =
+abbrev pub ConsoleSays : List ℕ → Outside → Outside → Type 0
+ConsoleSays text old new =
     Becomes (λ before after. after ≡ before ++ text) (old.told Console) (new.told Console)
     ⊎ (Rose (old.write_faults Console) (new.write_faults Console)
     × Becomes (AppendsPrefix text) (old.told Console) (new.told Console))

@@ -12,9 +12,9 @@ Stopped (stop.WriteFault role) old new = OnlyRose Writes role old new
 Stopped other old new = SameCounts old new
 
 -- what goes well has raised no count
-abbrev pub Ended : {T : Type 0} → Result T Stop → Outside → Outside → Type 0
-Ended (Ok x) old new = SameCounts old new
-Ended (Err stop) old new = Stopped stop old new
+abbrev pub IsCounted : {T : Type 0} → Result T Stop → Outside → Outside → Type 0
+IsCounted (Ok x) old new = SameCounts old new
+IsCounted (Err stop) old new = Stopped stop old new
 
 -- a fact of a bad line, its number and its kind
 abbrev pub OnBadLine : {T : Type 0} → Result T Stop → (ℕ → LineFault → Type 0) → Type 0

@@ -2,7 +2,7 @@
 
 ghost use Rattle.std.specs.Prelude.{◌≡◌, ◌≤◌, ◌+◌, ◌++◌, [], length, decimal, codes};
 ghost use Rattle.bm_host.specs.declared.Role.TheVariants.{Console};
-ghost use Rattle.bmcast.specs.Status.{IsTold, OnlyConsole};
+ghost use Rattle.bmcast.specs.Status.{ConsoleSays, OnlyConsole};
 ghost use Rattle.bm_host.specs.Outside.{SameElsewhere};
 ghost use Rattle.bmcast.specs.StatusLine.{fault_name, role_name, status_line, status_text, why_name};
 
@@ -17,9 +17,9 @@ const MOST: usize = 128;
 
 /// Writes the line that tells a status to Console; where that fails, a part of it may stand there, and nothing else
 /// is done. Done has no line.
-pub fn tell<H: Host>(host: &mut H, status: Status)
+pub(crate) fn tell<H: Host>(host: &mut H, status: Status)
     ensures console { OnlyConsole (H.outside host.old) (H.outside host.new) }
-    ensures told { IsTold (status_line status) (H.outside host.old) (H.outside host.new) }
+    ensures told { ConsoleSays (status_line status) (H.outside host.old) (H.outside host.new) }
     ensures elsewhere { SameElsewhere Console (H.outside host.old) (H.outside host.new) }
 {
     let mut line = ArrayVec::new();

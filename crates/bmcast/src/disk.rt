@@ -8,7 +8,7 @@ ghost use Rattle.plain_drive.specs.Plain.{sectors_in};
 ghost use Rattle.bmcast.specs.Lengths.{HasLength};
 ghost use Rattle.bmcast.specs.Machine.{list_of, physical};
 ghost use Rattle.bmcast.specs.Run.{drive_over, sectors_of_disk};
-ghost use Rattle.bmcast.specs.Stop.{Ended, IsFault, IsLateFault};
+ghost use Rattle.bmcast.specs.Stop.{IsCounted, IsFault, IsLateFault};
 ghost use Rattle.bmcast.specs.Kept.{KeepsFilesBut};
 ghost use Rattle.bmcast.specs.Waiting.{Waits};
 
@@ -26,12 +26,17 @@ use std::alloc::Global;
 const PIECE: usize = 65_536;
 
 /// Makes a drive of the disk's sectors, which is `size` bytes long, with a guest's memory of so many zeros.
-pub fn load<H: Host>(alloc: Global, host: &mut H, size: u64, memory: u32) -> Result<Machine, Stop>
+pub(crate) fn load<H: Host>(
+    alloc: Global,
+    host: &mut H,
+    size: u64,
+    memory: u32,
+) -> Result<Machine, Stop>
     requires whole { size % 512 ≡ 0 }
     requires memory { memory ≤ MOST_BYTES }
     requires told { HasLength Disk (H.outside host.old) size }
     ensures late { IfErr result IsLateFault }
-    ensures counts { Ended result (H.outside host.old) (H.outside host.new) }
+    ensures counts { IsCounted result (H.outside host.old) (H.outside host.new) }
     ensures bytes { SameBytes (H.outside host.old) (H.outside host.new) }
     ensures began { IfOk result (λ machine.
         physical machine ≡ drive_over memory (physical machine).kept.durable) }
@@ -59,7 +64,7 @@ fn read_disk<H: Host>(host: &mut H, store: &mut MemoryStore) -> Result<(), Stop>
     requires few { 512 * length (list_of store.old) < 2 ^ 64 }
     requires told { HasLength Disk (H.outside host.old) (512 * length (list_of store.old)) }
     ensures fault { IfErr result IsFault }
-    ensures counts { Ended result (H.outside host.old) (H.outside host.new) }
+    ensures counts { IsCounted result (H.outside host.old) (H.outside host.new) }
     ensures bytes { SameBytes (H.outside host.old) (H.outside host.new) }
     ensures count { length (list_of store.new) ≡ length (list_of store.old) }
     ensures disk { OnOk result (IfTold ((H.outside host.old).told Disk)
@@ -77,7 +82,7 @@ fn read_sector<H: Host>(host: &mut H, store: &mut MemoryStore, sector: u64) -> R
     requires few { 512 * length (list_of store.old) < 2 ^ 64 }
     requires told { HasLength Disk (H.outside host.old) (512 * length (list_of store.old)) }
     ensures fault { IfErr result IsFault }
-    ensures counts { Ended result (H.outside host.old) (H.outside host.new) }
+    ensures counts { IsCounted result (H.outside host.old) (H.outside host.new) }
     ensures bytes { SameBytes (H.outside host.old) (H.outside host.new) }
     ensures count { length (list_of store.new) ≡ length (list_of store.old) }
     ensures disk { OnOk result (IfTold ((H.outside host.old).told Disk)
@@ -97,10 +102,14 @@ fn read_sector<H: Host>(host: &mut H, store: &mut MemoryStore, sector: u64) -> R
 type Piece = ArrayVec<u8, PIECE>;
 
 /// Writes to Out what a power cut at this moment leaves of the drive: the durable value of each sector, in order.
-pub fn write_out<H: Host>(host: &mut H, machine: &mut Machine, sectors: u64) -> Result<(), Stop>
+pub(crate) fn write_out<H: Host>(
+    host: &mut H,
+    machine: &mut Machine,
+    sectors: u64,
+) -> Result<(), Stop>
     requires empty { IfTold ((H.outside host.old).told Out) (λ bytes. bytes ≡ []) }
     requires count { length (physical machine.old).kept.durable ≡ sectors }
-    ensures counts { Ended result (H.outside host.old) (H.outside host.new) }
+    ensures counts { IsCounted result (H.outside host.old) (H.outside host.new) }
     ensures fault { IfErr result IsFault }
     ensures files { KeepsFilesBut Out (H.outside host.old) (H.outside host.new) }
     ensures machine { physical machine.new ≡ physical machine.old }
@@ -124,7 +133,7 @@ fn write_sector<H: Host>(
 ) -> Result<(), Stop>
     requires { sector < length (physical machine.old).kept.durable }
     ensures fault { IfErr result IsFault }
-    ensures counts { Ended result (H.outside host.old) (H.outside host.new) }
+    ensures counts { IsCounted result (H.outside host.old) (H.outside host.new) }
     ensures files { KeepsFilesBut Out (H.outside host.old) (H.outside host.new) }
     ensures machine { physical machine.new ≡ physical machine.old }
     ensures waits { OnOk result ((text : List ℕ)

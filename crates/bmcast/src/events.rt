@@ -17,7 +17,7 @@ use ata_taskfile::{Phase, Ports, Step, Stepped, Taken, TaskFile};
 use schedule_text::{Emitted, Event, Item};
 
 /// Lets the drive act as one event says, and tells what the report says of it.
-pub fn apply(machine: &mut Machine, event: &Event, out: &mut Emitted)
+pub(crate) fn apply(machine: &mut Machine, event: &Event, out: &mut Emitted)
     requires in_range { IsInRange event.now }
     requires items { out.old.items.items ≡ [] }
     requires bytes { out.old.bytes.items ≡ [] }

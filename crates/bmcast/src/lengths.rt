@@ -7,7 +7,7 @@ ghost use Rattle.bm_host.specs.declared.Role.TheVariants.{Image, Disk};
 ghost use Rattle.bmcast.specs.Lengths.{CanRun, HasLength, IfLengths, StopsFor, why_of};
 ghost use Rattle.bmcast.specs.Kept.{IsUnopened, KeepsAllFiles, KeepsFilesBut, LeavesFiles, SameConsole};
 ghost use Rattle.bmcast.specs.Status.{status_after};
-ghost use Rattle.bmcast.specs.Stop.{Ended, IsEarly};
+ghost use Rattle.bmcast.specs.Stop.{IsCounted, IsEarly};
 
 use crate::Why;
 use crate::stop::Stop;
@@ -16,9 +16,9 @@ use fill_bitmap::{Unsuitable, area_of};
 use run_words::Options;
 
 /// Begins image and disk, and answers how many bytes the disk has.
-pub fn measure<H: Host>(host: &mut H, options: &Options<'_>) -> Result<u64, Stop>
+pub(crate) fn measure<H: Host>(host: &mut H, options: &Options<'_>) -> Result<u64, Stop>
     requires { IsBlock options.now.block }
-    ensures counts { Ended result (H.outside host.old) (H.outside host.new) }
+    ensures counts { IsCounted result (H.outside host.old) (H.outside host.new) }
     ensures files { OnOk result (KeepsAllFiles (H.outside host.old) (H.outside host.new)) }
     ensures left { LeavesFiles (status_after result) (H.outside host.old) (H.outside host.new) }
     ensures unopened { IsUnopened (H.outside host.old) (H.outside host.new) }
@@ -48,7 +48,7 @@ fn check(image: u64, disk: u64, block: u64) -> Result<(), Stop>
     ensures early { IfErr result IsEarly }
     ensures suitable { OnOk result (CanRun block image disk) }
     ensures refused { IfErr result (λ stop. StopsFor stop block image disk) }
-    ensures counts { (o : Outside) → Ended result o o }
+    ensures counts { (o : Outside) → IsCounted result o o }
     ensures whole { OnOk result (disk % 512 ≡ 0) }
 {
     match area_of(image, disk, block as u32) {

@@ -18,14 +18,14 @@ mod stop;
 mod streams;
 mod waiting;
 
-ghost use Rattle.bmcast.specs.Run.{IsReady, RunIsBad, RunIsDone};
+ghost use Rattle.bmcast.specs.Run.{IsOpened, RunIsBad, RunIsDone};
 ghost use Rattle.bmcast.specs.Kept.{IsUnopened, LeavesFiles};
 ghost use Rattle.bmcast.specs.Lengths.{CanRun};
 ghost use Rattle.bmcast.specs.Owed.{AnswersWhatIsOwed};
 ghost use Rattle.std.specs.Prelude.{◌≡◌, ◌⊎◌};
 ghost use Rattle.run_words.specs.Pairs.{texts};
 ghost use Rattle.bmcast.specs.Status.{Chooses, HasItsReason, OnBadLineStatus, OnNoMemory, UnlessDone};
-ghost use Rattle.bmcast.specs.Status.{HasItsCause, OnDone, OnlyConsole, IsTold, exit_code, status_of};
+ghost use Rattle.bmcast.specs.Status.{HasItsCause, OnDone, OnlyConsole, ConsoleSays, exit_code, status_of};
 ghost use Rattle.bm_host.specs.declared.Role.TheVariants.{Console};
 ghost use Rattle.bmcast.specs.StatusLine.{status_line};
 ghost use Rattle.bm_host.specs.Outside.{SameElsewhere};
@@ -100,10 +100,10 @@ pub fn bmcast<H: Host>(alloc: Global, words: &[String], host: &mut H) -> Status
     ensures opened { IsUnopened (H.outside host.old) (H.outside host.new)
         ⊎ Chooses (texts words.now) (H.outside host.old) CanRun }
     ensures files { LeavesFiles result (H.outside host.old) (H.outside host.new) }
-    ensures memory { OnNoMemory result (IsReady (H.outside host.new)) }
+    ensures memory { OnNoMemory result (IsOpened (H.outside host.new)) }
 
     ensures told { UnlessDone result
-        (IsTold (status_line result) (H.outside host.old) (H.outside host.new)) }
+        (ConsoleSays (status_line result) (H.outside host.old) (H.outside host.new)) }
     ensures cause { HasItsCause result (H.outside host.old) (H.outside host.new) }
 {
     match run(alloc, words, host) {
@@ -116,7 +116,7 @@ pub fn bmcast<H: Host>(alloc: Global, words: &[String], host: &mut H) -> Status
 fn report_stop<H: Host>(host: &mut H, stop: Stop) -> Status
     ensures status { result ≡ status_of stop }
     ensures counts { OnlyConsole (H.outside host.old) (H.outside host.new) }
-    ensures told { IsTold (status_line result) (H.outside host.old) (H.outside host.new) }
+    ensures told { ConsoleSays (status_line result) (H.outside host.old) (H.outside host.new) }
     ensures elsewhere { SameElsewhere Console (H.outside host.old) (H.outside host.new) }
 {
     let status = stop.status();

@@ -12,9 +12,9 @@ use drive_store::MemoryStore;
 ///
 /// A contract sees the two as one physical drive (`physical` of `specs/Machine.antt`).
 #[derive(Drop)]
-pub struct Machine {
-    pub drive: Drive<MemoryStore>,
-    pub memory: GuestMemory,
+pub(crate) struct Machine {
+    pub(crate) drive: Drive<MemoryStore>,
+    pub(crate) memory: GuestMemory,
     ghost few: { length memory ≤ 16777216 },
 }
 
@@ -25,7 +25,7 @@ impl Machine {
 
     /// The guest reads a register.
     #[tactic(auto, using(crate::proofs::Machines::reached))]
-    pub fn read8(&mut self, reg: Reg) -> u8
+    pub(crate) fn read8(&mut self, reg: Reg) -> u8
         ensures answer { result ≡ byte_read reg (device self.old) }
         ensures after { physical self.new
             ≡ with_device (after_read8 reg (device self.old)) (physical self.old) }
@@ -35,7 +35,7 @@ impl Machine {
 
     /// The guest writes a register.
     #[tactic(auto, using(crate::proofs::Machines::reached))]
-    pub fn write8(&mut self, reg: Reg, v: u8)
+    pub(crate) fn write8(&mut self, reg: Reg, v: u8)
         ensures after { physical self.new
             ≡ with_device (after_write8 reg v (device self.old)) (physical self.old) }
     {
@@ -44,7 +44,7 @@ impl Machine {
 
     /// The guest reads a word from Data.
     #[tactic(auto, using(crate::proofs::Machines::reached))]
-    pub fn read_word(&mut self) -> u16
+    pub(crate) fn read_word(&mut self) -> u16
         ensures answer { result ≡ word_read (device self.old) }
         ensures after { physical self.new
             ≡ with_device (after_read_word (device self.old)) (physical self.old) }
@@ -54,7 +54,7 @@ impl Machine {
 
     /// The guest writes a word to Data.
     #[tactic(auto, using(crate::proofs::Machines::reached))]
-    pub fn write_word(&mut self, w: u16)
+    pub(crate) fn write_word(&mut self, w: u16)
         ensures after { physical self.new
             ≡ with_device (after_write_word w (device self.old)) (physical self.old) }
     {
@@ -63,7 +63,7 @@ impl Machine {
 
     /// The guest writes the pointer to the descriptor table.
     #[tactic(auto, using(crate::proofs::Machines::reached))]
-    pub fn write_pointer(&mut self, v: u32)
+    pub(crate) fn write_pointer(&mut self, v: u32)
         ensures after { physical self.new
             ≡ with_device (after_write_pointer v (device self.old)) (physical self.old) }
     {
@@ -72,7 +72,7 @@ impl Machine {
 
     /// The byte of the guest's memory at a place; FFh outside of it (own).
     #[tactic(auto, using(crate::proofs::Machines::outside))]
-    pub fn byte(&self, place: u64) -> u8
+    pub(crate) fn byte(&self, place: u64) -> u8
         ensures { result ≡ byte_at self.now.memory place }
     {
         match u32::try_from(place) {
@@ -83,7 +83,7 @@ impl Machine {
 
     /// Sets the byte of the guest's memory at a place; outside of it nothing happens (own).
     #[tactic(auto, using(crate::proofs::Machines::outside_set))]
-    pub fn set_byte(&mut self, place: u64, v: u8)
+    pub(crate) fn set_byte(&mut self, place: u64, v: u8)
         ensures after { physical self.new
             ≡ with_memory (slice_set self.old.memory place v) (physical self.old) }
         ensures memory { self.new.memory ≡ slice_set self.old.memory place v }

@@ -9,7 +9,7 @@ ghost use Rattle.schedule_text.specs.Line.{Says, IsInRange};
 ghost use Rattle.schedule_text.specs.BadLine.{LineFails};
 ghost use Rattle.plain_run.specs.Entry.{entry_of, items_text};
 ghost use Rattle.plain_run.specs.Run.{DriveEvent};
-ghost use Rattle.bmcast.specs.Stop.{Ended, IsFault, IsPlayStop, OnBadLine, UnlessFault};
+ghost use Rattle.bmcast.specs.Stop.{IsCounted, IsFault, IsPlayStop, OnBadLine, UnlessFault};
 ghost use Rattle.bmcast.specs.Kept.{KeepsFiles};
 ghost use Rattle.bmcast.specs.Streams.{unread, KeepsSaid, Reports};
 ghost use Rattle.bmcast.specs.Played.{HasPlayed, HasTaken, HasDone, HasEnded, Leads, Progresses, HasFailed};
@@ -24,19 +24,19 @@ use schedule_text::{Emitted, Event, LAST_LINE, LineFault, read_line};
 
 /// Whether a schedule goes on.
 #[derive(Clone, Copy, Debug, PartialEq, Eq)]
-pub enum Progress {
+pub(crate) enum Progress {
     More,
     Ended,
 }
 
 /// Reads, does and reports the events of the schedule to its end, and answers the number of its line `end`.
-pub fn play<H: Host>(
+pub(crate) fn play<H: Host>(
     host: &mut H,
     streams: &mut Streams,
     machine: &mut Machine,
 ) -> Result<u32, Stop>
     ensures play { IfErr result IsPlayStop }
-    ensures counts { Ended result (H.outside host.old) (H.outside host.new) }
+    ensures counts { IsCounted result (H.outside host.old) (H.outside host.new) }
     ensures files { KeepsFiles (H.outside host.old) (H.outside host.new) }
     ensures ended { IfOk result (λ number. (start : Physical)
         → HasPlayed start streams.old (H.outside host.old) (physical machine.old) 1
@@ -69,7 +69,7 @@ fn play_line<H: Host>(
 ) -> Result<Progress, Stop>
     requires number { number ≤ LAST_LINE }
     ensures play { IfErr result IsPlayStop }
-    ensures counts { Ended result (H.outside host.old) (H.outside host.new) }
+    ensures counts { IsCounted result (H.outside host.old) (H.outside host.new) }
     ensures files { KeepsFiles (H.outside host.old) (H.outside host.new) }
     ensures progress { IfOk result (λ progress. (start : Physical)
         → HasPlayed start streams.old (H.outside host.old) (physical machine.old) number
@@ -103,7 +103,7 @@ fn take_line<H: Host>(
 ) -> Result<(), Stop>
     requires number { number ≤ LAST_LINE }
     ensures play { IfErr result IsPlayStop }
-    ensures counts { Ended result (H.outside host.old) (H.outside host.new) }
+    ensures counts { IsCounted result (H.outside host.old) (H.outside host.new) }
     ensures files { KeepsFiles (H.outside host.old) (H.outside host.new) }
     ensures taken { OnOk result ((start now : Physical)
         → HasPlayed start streams.old (H.outside host.old) now number
@@ -133,7 +133,7 @@ fn do_line<H: Host>(
 ) -> Result<Progress, Stop>
     requires number { number ≤ LAST_LINE }
     ensures play { IfErr result IsPlayStop }
-    ensures counts { Ended result (H.outside host.old) (H.outside host.new) }
+    ensures counts { IsCounted result (H.outside host.old) (H.outside host.new) }
     ensures files { KeepsFiles (H.outside host.old) (H.outside host.new) }
     ensures done { IfOk result (λ progress. (start : Physical)
         → HasTaken start streams.old (H.outside host.old) (physical machine.old)
@@ -161,7 +161,7 @@ fn do_line<H: Host>(
 // Whether a schedule goes on behind this event. The last line that can have a number must be the schedule's end.
 fn progress_after(event: &Event, number: u32) -> Result<Progress, Stop>
     ensures play { IfErr result IsPlayStop }
-    ensures counts { (o : Outside) → Ended result o o }
+    ensures counts { (o : Outside) → IsCounted result o o }
     ensures leads { IfOk result (λ progress. Leads progress event.now number) }
     ensures bad { (line : List ℕ) → Says line event.now
         → OnBadLine result (λ bad kind. (bad ≡ number) × LineFails kind number line) }
@@ -183,7 +183,7 @@ fn do_event<H: Host>(
     out: &mut Emitted,
 ) -> Result<(), Stop>
     requires in_range { IsInRange event.now }
-    ensures counts { Ended result (H.outside host.old) (H.outside host.new) }
+    ensures counts { IsCounted result (H.outside host.old) (H.outside host.new) }
     ensures fault { IfErr result IsFault }
     ensures files { KeepsFiles (H.outside host.old) (H.outside host.new) }
     ensures event { DriveEvent (physical machine.old)
@@ -201,7 +201,7 @@ fn do_event<H: Host>(
 fn expect_end<H: Host>(host: &mut H, streams: &mut Streams, number: u32) -> Result<(), Stop>
     requires { number ≤ LAST_LINE }
     ensures play { IfErr result IsPlayStop }
-    ensures counts { Ended result (H.outside host.old) (H.outside host.new) }
+    ensures counts { IsCounted result (H.outside host.old) (H.outside host.new) }
     ensures files { KeepsFiles (H.outside host.old) (H.outside host.new) }
     ensures said { UnlessFault result
         (KeepsSaid streams.old streams.new (H.outside host.old) (H.outside host.new)) }

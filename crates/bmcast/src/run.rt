@@ -7,10 +7,10 @@ ghost use Rattle.bmcast.specs.Machine.{physical};
 ghost use Rattle.run_words.specs.Pairs.{texts};
 ghost use Rattle.bmcast.specs.Kept.{IsUnopened, KeepsFiles, LeavesFiles, SameConsole};
 ghost use Rattle.bmcast.specs.Lengths.{CanRun, HasLength};
-ghost use Rattle.bmcast.specs.Stop.{Ended, IsFault, IsLate, IsPlayStop, OnBadLine};
+ghost use Rattle.bmcast.specs.Stop.{IsCounted, IsFault, IsLate, IsPlayStop, OnBadLine};
 ghost use Rattle.bmcast.specs.Status.{Chooses, HasItsReason, OnNoMemory, status_after};
 ghost use Rattle.bmcast.specs.Played.{HasPlayed, HasEnded, HasFailed};
-ghost use Rattle.bmcast.specs.Run.{IsReady, IsReported, IsStopped, IsDone, IsBadLine, RunIsBad, RunIsDone};
+ghost use Rattle.bmcast.specs.Run.{IsOpened, IsReported, IsStopped, DoneRun, BadLineRun, RunIsBad, RunIsDone};
 
 use crate::disk::{load, write_out};
 use crate::lengths::measure;
@@ -26,8 +26,8 @@ use std::alloc::Global;
 /// Does what the words say, to the end of the schedule.
 ///
 /// Memory is taken before the first event and not after it.
-pub fn run<H: Host>(alloc: Global, words: &[String], host: &mut H) -> Result<(), Stop>
-    ensures counts { Ended result (H.outside host.old) (H.outside host.new) }
+pub(crate) fn run<H: Host>(alloc: Global, words: &[String], host: &mut H) -> Result<(), Stop>
+    ensures counts { IsCounted result (H.outside host.old) (H.outside host.new) }
     ensures done { OnOk result
         (RunIsDone (texts words.now) (H.outside host.old) (H.outside host.new)) }
     ensures bad { OnBadLine result
@@ -36,7 +36,7 @@ pub fn run<H: Host>(alloc: Global, words: &[String], host: &mut H) -> Result<(),
     ensures files { LeavesFiles (status_after result) (H.outside host.old) (H.outside host.new) }
     ensures opened { IsUnopened (H.outside host.old) (H.outside host.new)
         ⊎ Chooses (texts words.now) (H.outside host.old) CanRun }
-    ensures memory { OnNoMemory (status_after result) (IsReady (H.outside host.new)) }
+    ensures memory { OnNoMemory (status_after result) (IsOpened (H.outside host.new)) }
     ensures console { SameConsole (H.outside host.old) (H.outside host.new) }
 {
     let Some(options) = read_options(words) else {
@@ -59,14 +59,14 @@ fn run_events<H: Host>(
     requires whole { size % 512 ≡ 0 }
     requires memory { options.now.memory ≤ MOST_BYTES }
     requires disk { HasLength Disk (H.outside host.old) size }
-    ensures counts { Ended result (H.outside host.old) (H.outside host.new) }
+    ensures counts { IsCounted result (H.outside host.old) (H.outside host.new) }
     ensures late { IfErr result IsLate }
     ensures done { OnOk result
-        (IsDone options.now.memory (H.outside host.old) (H.outside host.new)) }
+        (DoneRun options.now.memory (H.outside host.old) (H.outside host.new)) }
     ensures bad { OnBadLine result
-        (IsBadLine options.now.memory (H.outside host.old) (H.outside host.new)) }
+        (BadLineRun options.now.memory (H.outside host.old) (H.outside host.new)) }
     ensures files { LeavesFiles (status_after result) (H.outside host.old) (H.outside host.new) }
-    ensures memory { OnNoMemory (status_after result) (IsReady (H.outside host.new)) }
+    ensures memory { OnNoMemory (status_after result) (IsOpened (H.outside host.new)) }
     ensures console { SameConsole (H.outside host.old) (H.outside host.new) }
 {
     begin_files(host, options)?;
@@ -81,9 +81,9 @@ fn run_events<H: Host>(
 
 // Begins the files of the run but image and disk; report and out are empty afterwards.
 fn begin_files<H: Host>(host: &mut H, options: &Options<'_>) -> Result<(), Stop>
-    ensures counts { Ended result (H.outside host.old) (H.outside host.new) }
+    ensures counts { IsCounted result (H.outside host.old) (H.outside host.new) }
     ensures fault { IfErr result IsFault }
-    ensures ready { OnOk result (IsReady (H.outside host.new)) }
+    ensures ready { OnOk result (IsOpened (H.outside host.new)) }
     ensures files { LeavesFiles (status_after result) (H.outside host.old) (H.outside host.new) }
     ensures console { SameConsole (H.outside host.old) (H.outside host.new) }
 {
@@ -101,8 +101,8 @@ fn begin_files<H: Host>(host: &mut H, options: &Options<'_>) -> Result<(), Stop>
 
 // Plays the schedule to its end, and writes the report; the same up to a line that is bad.
 fn report_run<H: Host>(host: &mut H, machine: &mut Machine) -> Result<(), Stop>
-    requires ready { IsReady (H.outside host.old) }
-    ensures counts { Ended result (H.outside host.old) (H.outside host.new) }
+    requires ready { IsOpened (H.outside host.old) }
+    ensures counts { IsCounted result (H.outside host.old) (H.outside host.new) }
     ensures files { KeepsFiles (H.outside host.old) (H.outside host.new) }
     ensures play { IfErr result IsPlayStop }
     ensures reported { OnOk result (IsReported (H.outside host.old) (H.outside host.new)
@@ -126,7 +126,7 @@ fn play_to_end<H: Host>(
     streams: &mut Streams,
     machine: &mut Machine,
 ) -> Result<u32, Stop>
-    ensures counts { Ended result (H.outside host.old) (H.outside host.new) }
+    ensures counts { IsCounted result (H.outside host.old) (H.outside host.new) }
     ensures files { KeepsFiles (H.outside host.old) (H.outside host.new) }
     ensures play { IfErr result IsPlayStop }
     ensures ended { IfOk result (λ number. (start : Physical)

@@ -9,7 +9,7 @@ use schedule_text::LineFault;
 
 /// A run's end other than Done.
 #[derive(Clone, Copy, Debug, PartialEq, Eq)]
-pub enum Stop {
+pub(crate) enum Stop {
     Usage,
     Unsuitable(Why),
     BadLine(u32, LineFault),
@@ -21,7 +21,7 @@ pub enum Stop {
 
 impl Stop {
     /// The status that the run ends with.
-    pub fn status(self) -> Status
+    pub(crate) fn status(self) -> Status
         ensures { result ≡ status_of self }
     {
         match self {

@@ -12,28 +12,28 @@ use schedule_text::{Emitted, Item, LINE_BYTES, write_end, write_item};
 use std::cmp::min;
 
 /// The bytes of the schedule that are read in one call.
-pub const BLOCK: usize = 4096;
+pub(crate) const BLOCK: usize = 4096;
 
 /// The report's lines that are gathered before they are written.
-pub const PENDING: usize = 16384;
+pub(crate) const PENDING: usize = 16384;
 
 /// The bytes that a line of the report may have.
-pub const REPORT_LINE: usize = 4096;
+pub(crate) const REPORT_LINE: usize = 4096;
 
 /// A block of the schedule with what is taken of it, and the report's lines that aren't written yet.
 ///
 /// Lines wait until the next call to the host that isn't a write to Report, so a fault of another role finds the
 /// report exact (own).
 #[derive(Drop)]
-pub struct Streams {
-    pub block: [u8; BLOCK],
+pub(crate) struct Streams {
+    pub(crate) block: [u8; BLOCK],
     /// The bytes of the block that are taken.
-    pub at: usize,
+    pub(crate) at: usize,
     /// The bytes of the block that the host gave.
-    pub end: usize,
-    pub pending: ArrayVec<u8, PENDING>,
+    pub(crate) end: usize,
+    pub(crate) pending: ArrayVec<u8, PENDING>,
     /// The report's line in hand.
-    pub line: ArrayVec<u8, REPORT_LINE>,
+    pub(crate) line: ArrayVec<u8, REPORT_LINE>,
     ghost taken: { at ≤ end },
     ghost given: { end ≤ 4096 },
 }
@@ -43,12 +43,12 @@ impl Streams {
     ghost use Rattle.bm_host.specs.declared.Role.TheVariants.{Report, Schedule};
     ghost use Rattle.schedule_text.specs.Report.{end_text, line_text};
     ghost use Rattle.plain_run.specs.Entry.{items_text};
-    ghost use Rattle.bmcast.specs.Stop.{Ended, IsFault};
+    ghost use Rattle.bmcast.specs.Stop.{IsCounted, IsFault};
     ghost use Rattle.bmcast.specs.Kept.{KeepsFiles};
     ghost use Rattle.bmcast.specs.Streams.{unread, Takes, TakesBytes, Fetches, KeepsSaid, Reports};
 
     /// Nothing read and nothing to write.
-    pub fn new() -> Streams
+    pub(crate) fn new() -> Streams
         ensures pending { result.pending.items ≡ [] }
         ensures block { result.at ≡ result.end }
     {
@@ -62,8 +62,8 @@ impl Streams {
     }
 
     /// Writes the lines that wait.
-    pub fn flush<H: Host>(&mut self, host: &mut H) -> Result<(), Stop>
-        ensures counts { Ended result (H.outside host.old) (H.outside host.new) }
+    pub(crate) fn flush<H: Host>(&mut self, host: &mut H) -> Result<(), Stop>
+        ensures counts { IsCounted result (H.outside host.old) (H.outside host.new) }
         ensures fault { IfErr result IsFault }
         ensures files { KeepsFiles (H.outside host.old) (H.outside host.new) }
         ensures block { self.new ≡ record self.old { pending = self.new.pending } }
@@ -77,8 +77,13 @@ impl Streams {
     }
 
     /// Appends the report's lines for an event whose line has this number.
-    pub fn report<H: Host>(&mut self, host: &mut H, number: u32, out: &Emitted) -> Result<(), Stop>
-        ensures counts { Ended result (H.outside host.old) (H.outside host.new) }
+    pub(crate) fn report<H: Host>(
+        &mut self,
+        host: &mut H,
+        number: u32,
+        out: &Emitted,
+    ) -> Result<(), Stop>
+        ensures counts { IsCounted result (H.outside host.old) (H.outside host.new) }
         ensures fault { IfErr result IsFault }
         ensures files { KeepsFiles (H.outside host.old) (H.outside host.new) }
         ensures reported { OnOk result
@@ -99,7 +104,7 @@ impl Streams {
         bytes: &[u8],
     ) -> Result<(), Stop>
         requires { length bytes.now ≤ 2000 }
-        ensures counts { Ended result (H.outside host.old) (H.outside host.new) }
+        ensures counts { IsCounted result (H.outside host.old) (H.outside host.new) }
         ensures fault { IfErr result IsFault }
         ensures files { KeepsFiles (H.outside host.old) (H.outside host.new) }
         ensures reported { OnOk result
@@ -111,8 +116,8 @@ impl Streams {
     }
 
     /// Appends the report's last line; the schedule's line `end` has this number.
-    pub fn report_end<H: Host>(&mut self, host: &mut H, number: u32) -> Result<(), Stop>
-        ensures counts { Ended result (H.outside host.old) (H.outside host.new) }
+    pub(crate) fn report_end<H: Host>(&mut self, host: &mut H, number: u32) -> Result<(), Stop>
+        ensures counts { IsCounted result (H.outside host.old) (H.outside host.new) }
         ensures fault { IfErr result IsFault }
         ensures files { KeepsFiles (H.outside host.old) (H.outside host.new) }
         ensures reported { OnOk result
@@ -125,7 +130,7 @@ impl Streams {
 
     // Appends the line that was written.
     fn push_line<H: Host>(&mut self, host: &mut H) -> Result<(), Stop>
-        ensures counts { Ended result (H.outside host.old) (H.outside host.new) }
+        ensures counts { IsCounted result (H.outside host.old) (H.outside host.new) }
         ensures fault { IfErr result IsFault }
         ensures files { KeepsFiles (H.outside host.old) (H.outside host.new) }
         ensures reported { OnOk result
@@ -141,7 +146,7 @@ impl Streams {
 
     // Reads the next block of the schedule, where the last one is taken.
     fn refill<H: Host>(&mut self, host: &mut H) -> Result<(), Stop>
-        ensures counts { Ended result (H.outside host.old) (H.outside host.new) }
+        ensures counts { IsCounted result (H.outside host.old) (H.outside host.new) }
         ensures fault { IfErr result IsFault }
         ensures files { KeepsFiles (H.outside host.old) (H.outside host.new) }
         ensures said { OnOk result
@@ -166,8 +171,8 @@ impl Streams {
 
     /// Takes the next byte of the schedule; there is none at its end.
     #[tactic(auto, using(crate::proofs::Blocks::next_of_block))]
-    pub fn next_byte<H: Host>(&mut self, host: &mut H) -> Result<Option<u8>, Stop>
-        ensures counts { Ended result (H.outside host.old) (H.outside host.new) }
+    pub(crate) fn next_byte<H: Host>(&mut self, host: &mut H) -> Result<Option<u8>, Stop>
+        ensures counts { IsCounted result (H.outside host.old) (H.outside host.new) }
         ensures fault { IfErr result IsFault }
         ensures files { KeepsFiles (H.outside host.old) (H.outside host.new) }
         ensures said { OnOk result
@@ -196,8 +201,12 @@ impl Streams {
     }
 
     /// Takes the next line of the schedule into `line`, without its line feed.
-    pub fn next_line<H: Host>(&mut self, host: &mut H, line: &mut Line) -> Result<Fetched, Stop>
-        ensures counts { Ended result (H.outside host.old) (H.outside host.new) }
+    pub(crate) fn next_line<H: Host>(
+        &mut self,
+        host: &mut H,
+        line: &mut Line,
+    ) -> Result<Fetched, Stop>
+        ensures counts { IsCounted result (H.outside host.old) (H.outside host.new) }
         ensures fault { IfErr result IsFault }
         ensures files { KeepsFiles (H.outside host.old) (H.outside host.new) }
         ensures said { OnOk result
@@ -237,11 +246,11 @@ fn before_line_feed(bytes: &[u8], most: usize) -> usize
 }
 
 /// A line of the schedule.
-pub type Line = ArrayVec<u8, LINE_BYTES>;
+pub(crate) type Line = ArrayVec<u8, LINE_BYTES>;
 
 /// What stands next in the schedule.
 #[derive(Clone, Copy, Debug, PartialEq, Eq)]
-pub enum Fetched {
+pub(crate) enum Fetched {
     /// A line, with its line feed.
     Line,
     /// A line that the end of the schedule cuts off before its line feed.

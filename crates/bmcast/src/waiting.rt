@@ -2,7 +2,7 @@
 
 ghost use Rattle.std.specs.Prelude.{◌≡◌, ◌≤◌, ◌+◌, [], length, IfErr, OnOk};
 ghost use Rattle.bm_host.specs.Outside.{SameElsewhere};
-ghost use Rattle.bmcast.specs.Stop.{Ended, IsFault};
+ghost use Rattle.bmcast.specs.Stop.{IsCounted, IsFault};
 ghost use Rattle.bmcast.specs.Waiting.{KeepsWaiting};
 
 use crate::stop::Stop;
@@ -10,12 +10,12 @@ use arrayvec::ArrayVec;
 use bm_host::{Host, Role};
 
 /// Writes what waits.
-pub fn write_waiting<H: Host, const N: usize>(
+pub(crate) fn write_waiting<H: Host, const N: usize>(
     host: &mut H,
     role: Role,
     waiting: &mut ArrayVec<u8, N>,
 ) -> Result<(), Stop>
-    ensures counts { Ended result (H.outside host.old) (H.outside host.new) }
+    ensures counts { IsCounted result (H.outside host.old) (H.outside host.new) }
     ensures fault { IfErr result IsFault }
     ensures elsewhere { SameElsewhere role (H.outside host.old) (H.outside host.new) }
     ensures waits { OnOk result (KeepsWaiting role waiting.old.items waiting.new.items
@@ -33,14 +33,14 @@ pub fn write_waiting<H: Host, const N: usize>(
 }
 
 /// Writes what waits, where so many bytes more don't fit beside it.
-pub fn make_room<H: Host, const N: usize>(
+pub(crate) fn make_room<H: Host, const N: usize>(
     host: &mut H,
     role: Role,
     waiting: &mut ArrayVec<u8, N>,
     more: usize,
 ) -> Result<(), Stop>
     requires { more ≤ N }
-    ensures counts { Ended result (H.outside host.old) (H.outside host.new) }
+    ensures counts { IsCounted result (H.outside host.old) (H.outside host.new) }
     ensures fault { IfErr result IsFault }
     ensures elsewhere { SameElsewhere role (H.outside host.old) (H.outside host.new) }
     ensures waits { OnOk result (KeepsWaiting role waiting.old.items waiting.new.items
