@@ -1,25 +1,25 @@
 -- A drive with a dummy read.
 use Rattle.std.specs.Prelude.{◌≡◌, ℕ, Bool, true, false, not}
-use Rattle.ata_taskfile.specs.declared.registers.TheConstants.{DEV, NIEN}
+use Rattle.ata_taskfile.specs.declared.registers.TheConstants.{DEV, NIEN, BLOCK_WORDS}
 use Rattle.ata_taskfile.specs.declared.Taken.{Taken}
 use Rattle.ata_taskfile.specs.declared.Taken.TheVariants.{Good}
 use Rattle.ata_taskfile.specs.declared.Phase.{Phase}
 use Rattle.ata_taskfile.specs.declared.Phase.TheVariants.{Reset, Idle, Busy, Ready}
 use Rattle.ata_taskfile.specs.TaskFile.{has_bit, is_at_work, masks_line}
 use Rattle.ata_taskfile.specs.Device.{Device}
-use Rattle.own_pio.specs.Job.{order_of, request_of}
+use Rattle.own_pio.specs.Job.{job_order, job_request}
 use Rattle.dummy_read.specs.Dummy.{job_on}
 
 -- the drive is at work on the read of a sector
 pub record IsAtWork (sector : ℕ) (order : Taken) (position sectors : ℕ) : Type 0 where
-  pub order_is : order ≡ order_of (job_on sector) sectors
+  pub order_is : order ≡ job_order (job_on sector) sectors
   pub position_is : position ≡ 0
 
 -- the sector's block waits in Data, and no word of it was taken
 pub record IsOffered (sector : ℕ) (order : Taken) (position left : ℕ) : Type 0 where
-  pub good : order ≡ Good (request_of (job_on sector))
+  pub good : order ≡ Good (job_request (job_on sector))
   pub position_is : position ≡ 0
-  pub whole : left ≡ 256
+  pub whole : left ≡ BLOCK_WORDS
 
 -- where a dummy read stands, by the phase and by whether the last command failed, on a drive of so many sectors
 abbrev pub FliesIn : Phase → Bool → ℕ → ℕ → Type 0

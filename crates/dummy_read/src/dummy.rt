@@ -6,7 +6,8 @@ ghost use Rattle.ata_taskfile.specs.TaskFile.{masks_line};
 ghost use Rattle.ata_taskfile.specs.Device.{line_read};
 ghost use Rattle.port_lease.specs.Free.{is_free, shows_rest};
 ghost use Rattle.port_lease.specs.Sides.{view_held, has_own};
-ghost use Rattle.own_pio.specs.Job.{command_of, order_of};
+ghost use Rattle.own_pio.specs.Job.{command_of, job_order};
+ghost use Rattle.own_pio.specs.Running.{IsUnseen};
 ghost use Rattle.dummy_read.specs.Dummy.{sector_of, is_cancelled, job_on};
 ghost use Rattle.dummy_read.specs.Flight.{IsInFlight, ended, silenced};
 
@@ -34,19 +35,17 @@ impl Dummy {
         ensures uncancelled { is_cancelled result ≡ false }
         ensures flies { IsInFlight sector false (P.device ports.new) }
         ensures taken { (P.device ports.new).file.phase
-            ≡ Busy (order_of (job_on sector) (P.device ports.old).sectors) 0 }
+            ≡ Busy (job_order (job_on sector) (P.device ports.old).sectors) 0 }
         ensures byte { (P.device ports.new).file.command ≡ command_of (job_on sector) }
         ensures nien { masks_line (P.device ports.new).file
             ≡ masks_line (view_held side.old).file }
 
         // No interrupt yet, and no sector changes.
         ensures unpended { (P.device ports.new).file.pending ≡ false }
+        ensures unseen { IsUnseen (P.device ports.old) (P.device ports.new) }
         ensures line { line_read (P.device ports.new) ≡ false }
         ensures own { has_own side.new ≡ true }
         ensures view { view_held side.new ≡ view_held side.old }
-        ensures bus { (P.device ports.new).bus ≡ (P.device ports.old).bus }
-        ensures cells { (P.device ports.new).cells ≡ (P.device ports.old).cells }
-        ensures sectors { (P.device ports.new).sectors ≡ (P.device ports.old).sectors }
         ensures rest { P.rest ports.new ≡ P.rest ports.old }
     {
         let masked = has_bit(NIEN, side.view().file.control);
@@ -74,16 +73,13 @@ impl Dummy {
         ensures dummy { self.new ≡ self.old }
 
         // The line is as the drive's step left it: as high as the guest's nIEN lets it be, or low once cancelled.
-        ensures line { line_read (P.device ports.new) ≡ line_read (P.device ports.old) }
+        ensures unseen { IsUnseen (P.device ports.old) (P.device ports.new) }
         ensures high { result ≡ true → is_cancelled self.old ≡ false
             → line_read (P.device ports.new) ≡ not (masks_line (P.device ports.old).file) }
         ensures low { is_cancelled self.old ≡ true → line_read (P.device ports.new) ≡ false }
 
         ensures own { has_own side.new ≡ (not result && has_own side.old) }
         ensures view { view_held side.new ≡ view_held side.old }
-        ensures bus { (P.device ports.new).bus ≡ (P.device ports.old).bus }
-        ensures cells { (P.device ports.new).cells ≡ (P.device ports.old).cells }
-        ensures sectors { (P.device ports.new).sectors ≡ (P.device ports.old).sectors }
         ensures rest { P.rest ports.new ≡ P.rest ports.old }
     {
         if !ports.pending() {

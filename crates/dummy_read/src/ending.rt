@@ -8,7 +8,7 @@ ghost use Rattle.dummy_read.specs.Dummy.{sector_of, is_cancelled};
 ghost use Rattle.dummy_read.specs.Flight.{IsInFlight};
 
 use crate::Dummy;
-use ata_taskfile::registers::{DRQ, has_bit};
+use ata_taskfile::registers::{BLOCK_WORDS, DRQ, has_bit};
 use ata_taskfile::{Ports, Reg};
 
 impl Dummy {
@@ -33,7 +33,7 @@ fn drop_block<P: Ports>(ports: &mut P)
         P.device ports.new ≡ with_phase (phase_left d.file.phase 0) d }
     ensures rest { P.rest ports.new ≡ P.rest ports.old }
 {
-    for _ in 0..256usize {
+    for _ in 0..BLOCK_WORDS {
         ports.read_word();
     }
 }

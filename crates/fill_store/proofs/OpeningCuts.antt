@@ -13,7 +13,7 @@ use Rattle.fill_bitmap.specs.Disk.{sector_at, header_of, HasHeader, bitmap_secto
 use Rattle.fill_bitmap.proofs.Disks.{none_stored}
 use Rattle.fill_bitmap.proofs.StoredBlocks.{same_stored}
 use Rattle.fill_store.specs.declared.opening.OpeningStep.{OpeningStep}
-use Rattle.fill_store.specs.declared.opening.OpeningStep.TheVariants.{ReadHeader, ReadBits, WriteZeros, FlushZeros, WriteHeader, FlushHeader, Ended}
+use Rattle.fill_store.specs.declared.opening.OpeningStep.TheVariants.{ReadHeader, ReadBits, WriteZeros, FlushZeros, WriteHeader, FlushHeader, Nothing}
 use Rattle.fill_store.specs.Sectors.{zero_bits}
 use Rattle.fill_store.specs.Cells.{KeepsBits}
 use Rattle.fill_store.specs.Opening.{OpeningState, job_at, next_in_opening}
@@ -123,7 +123,7 @@ step_cut area id disk WriteHeader cells outcome leaves (none, zeros) left =
     zeros_left area id disk cells outcome leaves none zeros left
 step_cut area id disk FlushHeader cells outcome leaves (none, zeros, header) left =
     zeros_left area id disk cells outcome leaves none zeros left
-step_cut area id disk Ended cells outcome leaves kept left = cut_stores_set area id
+step_cut area id disk Nothing cells outcome leaves kept left = cut_stores_set area id
     (stored_blocks area id disk) cells outcome kept left
 
 -- a cut in an opening leaves the disk's stored blocks
@@ -167,7 +167,7 @@ at_end area id disk (WriteZeros k) sets cells all holds none = absurd (cc)
 at_end area id disk FlushZeros sets cells all holds none = absurd (cc)
 at_end area id disk WriteHeader sets cells all holds none = absurd (cc)
 at_end area id disk FlushHeader sets cells all holds none = absurd (cc)
-at_end area id disk Ended sets cells all holds none = (all, holds)
+at_end area id disk Nothing sets cells all holds none = (all, holds)
 
 -- the bitmap's stored blocks are those of the drive's sectors, which a cut may leave as they are
 pub ended_stored : (disk : List (List ℕ)) (o : OpeningState) (sets : Sets) (cells : List Cell)

@@ -19,7 +19,7 @@ use Rattle.fill_bitmap.specs.Disk.{sector_at, header_of, HasHeader, bitmap_secto
 use Rattle.fill_bitmap.proofs.Disks.{added_all, none_stored, has-empty_set}
 use Rattle.fill_bitmap.proofs.StoredBlocks.{length-stored_blocks, stored_inside, stored_block}
 use Rattle.fill_store.specs.declared.opening.OpeningStep.{OpeningStep}
-use Rattle.fill_store.specs.declared.opening.OpeningStep.TheVariants.{ReadHeader, ReadBits, WriteZeros, FlushZeros, WriteHeader, FlushHeader, Ended}
+use Rattle.fill_store.specs.declared.opening.OpeningStep.TheVariants.{ReadHeader, ReadBits, WriteZeros, FlushZeros, WriteHeader, FlushHeader, Nothing}
 use Rattle.fill_store.specs.Sectors.{zero_bits}
 use Rattle.fill_store.specs.Cells.{Each, MadeBy, ForgetsOld, HasBitsBetween, KeepsBits}
 use Rattle.fill_store.specs.Opening.{OpeningState, opening_of, IsReached, job_at, bytes_at, next_in_opening, bytes_to_open, read_from, zeros_from, step_after, sets_behind, opening_after, sets_after_opening}
@@ -102,7 +102,7 @@ cells_forget area id disk WriteHeader old new forgets (none, zeros) =
     (none, only_zeros_forget area old new forgets zeros)
 cells_forget area id disk FlushHeader old new forgets (none, zeros, header) =
     (none, only_zeros_forget area old new forgets zeros, forgets.newest (reserved_of area) ∙ header)
-cells_forget area id disk Ended old new forgets kept =
+cells_forget area id disk Nothing old new forgets kept =
     keeps_forgets area id (stored_blocks area id disk) (stored_blocks area id disk) old new forgets kept
 
 -- an opening stands where older values were forgotten
@@ -175,7 +175,7 @@ reads_on : (area : Area) (id : ℕ) (disk : List (List ℕ)) (k : ℕ) (sets : S
     → HasOldBits area disk cells
     → Stands area id disk sets cells (read_from area k)
 reads_on area id disk k sets cells leaves so_far header bits =
-    on_test (Stands area id disk sets cells) k (bitmap_sectors_of area) Ended (ReadBits k)
+    on_test (Stands area id disk sets cells) k (bitmap_sectors_of area) Nothing (ReadBits k)
     (λ all. (
       so_far ∙ ap alike (ap (λ n. with_sectors n area disk (empty_set (blocks_of area))) all
           ∙ added_all area id disk header),
@@ -276,7 +276,7 @@ step_done area id disk FlushHeader bytes sets old new reached empty leaves (none
           (only_zeros_forget area old (all_flushed old) (flush_forgets old) zeros)
           (each_flushed (λ value. value ≡ header_of area id) (reserved_of area) old header)),
     )
-step_done area id disk Ended bytes sets old new reached all leaves kept made = rw made (all, leaves, kept)
+step_done area id disk Nothing bytes sets old new reached all leaves kept made = rw made (all, leaves, kept)
 
 -- a job that a step has in hand leaves all as it is to be, once it was made too
 step_in_hand : (area : Area) (id : ℕ) (disk : List (List ℕ)) (step : OpeningStep) (bytes : List ℕ) (old new : List Cell)
@@ -306,7 +306,7 @@ step_in_hand area id disk FlushHeader bytes old new leaves holds made =
       leaves_forgets area id disk old (all_flushed old) (flush_forgets old) leaves,
       cells_forget area id disk FlushHeader old (all_flushed old) (flush_forgets old) holds,
     )
-step_in_hand area id disk Ended bytes old new leaves holds made = rw made (leaves, holds)
+step_in_hand area id disk Nothing bytes old new leaves holds made = rw made (leaves, holds)
 
 step_failed : (area : Area) (id : ℕ) (disk : List (List ℕ)) (step : OpeningStep) (job : Option OwnJob)
     (bytes : List ℕ) (old new : List Cell)
@@ -350,7 +350,7 @@ pub opens_at_power_on : (area : Area) (id : ℕ) (disk : List (List ℕ)) → Is
     → Opens disk (opening_of area id) (empty_sets (blocks_of area)) (stored disk)
 opens_at_power_on area id disk suitable some long =
     let reserved = room_for_reserved area suitable some in
-    let begins : (if area.image == 0 then Ended else ReadHeader) ≡ ReadHeader =
+    let begins : (if area.image == 0 then Nothing else ReadHeader) ≡ ReadHeader =
     elim (eqb_tells area.image 0) [ inl (test, none) ↦ absurd (omega arith) | inr (test, apart) ↦ rw test refl ] in
     record {
       bitmap = rw begins refl;
@@ -388,7 +388,7 @@ header_written area id disk (WriteZeros k) cells count holds next =
 header_written area id disk FlushZeros cells count holds next = absurd (cc)
 header_written area id disk WriteHeader cells count (none, zeros) next = zeros
 header_written area id disk FlushHeader cells count holds next = absurd (cc)
-header_written area id disk Ended cells count holds next = absurd (cc)
+header_written area id disk Nothing cells count holds next = absurd (cc)
 
 -- the header is written behind durable zeros
 pub opens_header : (disk : List (List ℕ)) (o : OpeningState) (sets : Sets) (cells : List Cell) (count : ℕ)

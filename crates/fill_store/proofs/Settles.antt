@@ -11,7 +11,7 @@ use Rattle.fill_bitmap.specs.Bits.{sector_of}
 use Rattle.fill_bitmap.specs.Bitmap.{Sets, IsNested, blocks_in, frozen_now, frozen_stored}
 use Rattle.fill_bitmap.specs.BlockSet.{IsWithin}
 use Rattle.fill_store.specs.declared.settle.SettleStep.{SettleStep}
-use Rattle.fill_store.specs.declared.settle.SettleStep.TheVariants.{FlushData, WriteBits, FlushBits, Ended}
+use Rattle.fill_store.specs.declared.settle.SettleStep.TheVariants.{FlushData, WriteBits, FlushBits, Nothing}
 use Rattle.fill_store.specs.Cells.{MadeBy, ForgetsOld, KeepsBits}
 use Rattle.fill_store.specs.Settle.{SettleState, settle_of, IsReached, job_at, bytes_at, next_in_settling, bytes_to_settle, bits_from, step_after, sets_behind, settle_after, sets_after_settling}
 use Rattle.fill_store.specs.SettleCells.{HasFrozen, HoldsAt, MadeBySettling, Settles, durable_behind, durable_after}
@@ -27,7 +27,7 @@ holds_forgets area durable (WriteBits k) sets old new forgets (all, bits) =
     (all, bits_forget k (λ i. sector_of i sets.frozen) area old new forgets bits)
 holds_forgets area durable FlushBits sets old new forgets (all, bits) =
     (all, bits_forget (bitmap_sectors_of area) (λ i. sector_of i sets.frozen) area old new forgets bits)
-holds_forgets area durable Ended sets old new forgets within = within
+holds_forgets area durable Nothing sets old new forgets within = within
 
 pub settles_forgets : (id : ℕ) (durable : List Bool) (s : SettleState) (sets : Sets) (old new : List Cell)
     → ForgetsOld old new
@@ -49,7 +49,7 @@ holds_elsewhere area durable (WriteBits k) sets sector bytes cells elsewhere (al
     (all, bits_elsewhere k (λ i. sector_of i sets.frozen) area sector bytes cells elsewhere bits)
 holds_elsewhere area durable FlushBits sets sector bytes cells elsewhere (all, bits) =
     (all, bits_elsewhere (bitmap_sectors_of area) (λ i. sector_of i sets.frozen) area sector bytes cells elsewhere bits)
-holds_elsewhere area durable Ended sets sector bytes cells elsewhere within = within
+holds_elsewhere area durable Nothing sets sector bytes cells elsewhere within = within
 
 pub settles_elsewhere : (id : ℕ) (durable : List Bool) (s : SettleState) (sets : Sets) (sector : ℕ)
     (bytes : List ℕ) (cells : List Cell)
@@ -113,7 +113,7 @@ step_done id area durable FlushBits bytes sets old new reached nested blocks kep
           (keeps_frozen area id sets.stored durable sets.frozen old (nested.frozen_blocks ∙ blocks) bits kept),
       subst (λ set. IsWithin set sets.frozen) (sym all) (λ b held. held),
     )
-step_done id area durable Ended bytes sets old new reached nested blocks kept within made = rw made (kept, within)
+step_done id area durable Nothing bytes sets old new reached nested blocks kept within made = rw made (kept, within)
 
 -- a job in hand, made or not
 step_in_hand : (id : ℕ) (area : Area) (durable : List Bool) (step : SettleStep) (bytes : List ℕ)
@@ -136,7 +136,7 @@ step_in_hand id area durable FlushBits bytes sets old new nested kept holds made
       keeps_forgets area id sets.stored durable old (all_flushed old) (flush_forgets old) kept,
       holds_forgets area durable FlushBits sets old (all_flushed old) (flush_forgets old) holds,
     )
-step_in_hand id area durable Ended bytes sets old new nested kept within made = rw made (kept, within)
+step_in_hand id area durable Nothing bytes sets old new nested kept within made = rw made (kept, within)
 
 step_failed : (id : ℕ) (area : Area) (durable : List Bool) (step : SettleStep) (job : Option OwnJob)
     (bytes : List ℕ) (sets : Sets) (old new : List Cell)
@@ -170,19 +170,19 @@ within_frozen area durable (WriteBits k) sets cells (all, bits) = subst (λ set.
     (sym all) (λ b held. held)
 within_frozen area durable FlushBits sets cells (all, bits) = subst (λ set. IsWithin set sets.frozen)
     (sym all) (λ b held. held)
-within_frozen area durable Ended sets cells within = within
+within_frozen area durable Nothing sets cells within = within
 
 behind_nested : (step : SettleStep) (sets : Sets) → IsNested sets → IsNested (sets_behind step sets)
 behind_nested FlushData sets nested = nested
 behind_nested (WriteBits k) sets nested = nested
 behind_nested FlushBits sets nested = stored_nested sets nested
-behind_nested Ended sets nested = nested
+behind_nested Nothing sets nested = nested
 
 behind_blocks : (step : SettleStep) (sets : Sets) → blocks_in (sets_behind step sets) ≡ blocks_in sets
 behind_blocks FlushData sets = refl
 behind_blocks (WriteBits k) sets = refl
 behind_blocks FlushBits sets = refl
-behind_blocks Ended sets = refl
+behind_blocks Nothing sets = refl
 
 -- a settling goes on, or ends, where its job ended
 pub settles_after : (ok : Bool) (id : ℕ) (durable : List Bool) (s : SettleState) (bytes : List ℕ)
@@ -243,7 +243,7 @@ bits_written : (area : Area) (durable : List Bool) (step : SettleStep) (sets : S
 bits_written area durable FlushData sets cells sector count holds next = absurd (cc)
 bits_written area durable (WriteBits k) sets cells sector count (all, bits) next = all
 bits_written area durable FlushBits sets cells sector count holds next = absurd (cc)
-bits_written area durable Ended sets cells sector count holds next = absurd (cc)
+bits_written area durable Nothing sets cells sector count holds next = absurd (cc)
 
 -- bits are written behind durable data
 pub settles_bits : (id : ℕ) (durable : List Bool) (s : SettleState) (sets : Sets) (cells : List Cell) (sector count : ℕ)

@@ -22,7 +22,7 @@ value_at s cells = current (cell_at s cells)
 abbrev pub Each : (List ℕ → Type 0) → ℕ → List Cell → Type 0
 Each P s cells = All P (values (cell_at s cells))
 
--- these are the newest values of the bitmap's first so many sectors
+-- the newest values of the bitmap's first so many sectors are these bytes
 abbrev pub HasBits : ℕ → (ℕ → List ℕ) → Area → List Cell → Type 0
 HasBits n bytes area cells = (k : ℕ) → k < n → value_at (sector_of_bits area k) cells ≡ bytes k
 
@@ -30,20 +30,20 @@ HasBits n bytes area cells = (k : ℕ) → k < n → value_at (sector_of_bits ar
 abbrev pub HasReserved : Area → List Cell → Type 0
 HasReserved area cells = reserved_of area + (bitmap_sectors_of area + 2) ≡ length cells
 
--- what a job of one sector that was done made of a store; its bytes are those that were read or written
+-- what a job of one sector made of a store, once it was done; its bytes are those that were read or written
 -- (own: the disk model)
-abbrev pub IsDone : OwnJob → List ℕ → List Cell → List Cell → Type 0
-IsDone (Read s count) bytes old new = (bytes ≡ value_at s old) × (new ≡ old)
-IsDone (Write s count) bytes old new = new ≡ appended s bytes old
-IsDone Flush bytes old new = new ≡ all_flushed old
+abbrev pub IsSectorDone : OwnJob → List ℕ → List Cell → List Cell → Type 0
+IsSectorDone (Read s count) bytes old new = (bytes ≡ value_at s old) × (new ≡ old)
+IsSectorDone (Write s count) bytes old new = new ≡ appended s bytes old
+IsSectorDone Flush bytes old new = new ≡ all_flushed old
 
 -- what a job made of a store: all of it where it was done, and all of it or nothing where it failed or goes on
 -- (own: the disk model)
 abbrev pub Made : Bool → OwnJob → List ℕ → List Cell → List Cell → Type 0
-Made true job bytes old new = IsDone job bytes old new
-Made false job bytes old new = (new ≡ old) ⊎ IsDone job bytes old new
+Made true job bytes old new = IsSectorDone job bytes old new
+Made false job bytes old new = (new ≡ old) ⊎ IsSectorDone job bytes old new
 
--- the same of a job that may stand
+-- what a job made of a store, or no job, which leaves it
 abbrev pub MadeBy : Bool → Option OwnJob → List ℕ → List Cell → List Cell → Type 0
 MadeBy ok None bytes old new = new ≡ old
 MadeBy ok (Some job) bytes old new = Made ok job bytes old new

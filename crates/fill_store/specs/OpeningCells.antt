@@ -2,12 +2,13 @@
 use Rattle.std.specs.Prelude.{ℕ, ◌≡◌, ◌<◌, ◌⊎◌, List, Bool, take, unwrap_or}
 use Rattle.ata_taskfile.specs.Device.{Cell}
 use Rattle.fill_bitmap.specs.declared.area.Area.{Area}
+use Rattle.fill_bitmap.specs.declared.lengths.TheConstants.{SECTOR_BYTES}
 use Rattle.fill_bitmap.specs.Area.{blocks_of, bitmap_sectors_of, reserved_of, sector_of_bits}
 use Rattle.fill_bitmap.specs.Bitmap.{Sets, these_sets}
 use Rattle.fill_bitmap.specs.BlockSet.{empty_set}
 use Rattle.fill_bitmap.specs.Disk.{header_of, HasHeader, sector_at, bitmap_sector, stored_blocks, with_sectors}
 use Rattle.fill_store.specs.declared.opening.OpeningStep.{OpeningStep}
-use Rattle.fill_store.specs.declared.opening.OpeningStep.TheVariants.{ReadHeader, ReadBits, WriteZeros, FlushZeros, WriteHeader, FlushHeader, Ended}
+use Rattle.fill_store.specs.declared.opening.OpeningStep.TheVariants.{ReadHeader, ReadBits, WriteZeros, FlushZeros, WriteHeader, FlushHeader, Nothing}
 use Rattle.fill_store.specs.Sectors.{zero_bits}
 use Rattle.fill_store.specs.Cells.{value_at, Each, HasBits, HasReserved, MadeBy, KeepsBits}
 use Rattle.fill_store.specs.Opening.{OpeningState, next_in_opening, bytes_to_open}
@@ -36,7 +37,7 @@ abbrev pub HasOldHeader : Area → List (List ℕ) → List Cell → Type 0
 HasOldHeader area disk cells =
     Each (λ value. value ≡ sector_at (reserved_of area) disk) (reserved_of area) cells
 
--- and so is the bitmap
+-- the bitmap is as it was at power-on
 abbrev pub HasOldBits : Area → List (List ℕ) → List Cell → Type 0
 HasOldBits area disk cells =
     (k : ℕ) → k < bitmap_sectors_of area
@@ -46,7 +47,7 @@ HasOldBits area disk cells =
 abbrev pub HasZeros : ℕ → Area → List Cell → Type 0
 HasZeros n area cells = HasBits n (λ k. zero_bits) area cells
 
--- a cut leaves nothing else of the bitmap than zeros
+-- whatever a cut leaves, the bitmap is zeros
 abbrev pub HasOnlyZeros : Area → List Cell → Type 0
 HasOnlyZeros area cells =
     (k : ℕ) → k < bitmap_sectors_of area
@@ -65,7 +66,7 @@ CellsAt area id disk WriteHeader cells = (¬ HasHeader area id disk) × HasOnlyZ
 CellsAt area id disk FlushHeader cells =
     (¬ HasHeader area id disk) × HasOnlyZeros area cells
     × (value_at (reserved_of area) cells ≡ header_of area id)
-CellsAt area id disk Ended cells =
+CellsAt area id disk Nothing cells =
     KeepsBits area id (stored_blocks area id disk) (stored_blocks area id disk) cells
 
 -- the blocks in each set of the bitmap at each step: those that were read so far, at the end the stored
@@ -77,7 +78,7 @@ blocks_at area id disk (WriteZeros k) = empty_set (blocks_of area)
 blocks_at area id disk FlushZeros = empty_set (blocks_of area)
 blocks_at area id disk WriteHeader = empty_set (blocks_of area)
 blocks_at area id disk FlushHeader = empty_set (blocks_of area)
-blocks_at area id disk Ended = stored_blocks area id disk
+blocks_at area id disk Nothing = stored_blocks area id disk
 
 -- an opening whose drive had the sectors `disk` at power-on, with the bitmap and the drive's sectors as
 -- they are (own)
@@ -91,4 +92,4 @@ pub record Opens (disk : List (List ℕ)) (o : OpeningState) (sets : Sets)
 -- what it read (own)
 abbrev pub MadeByOpening : Bool → OpeningState → List ℕ → List Cell → List Cell → Type 0
 MadeByOpening ok o buffer old new =
-    MadeBy ok (next_in_opening o) (unwrap_or (bytes_to_open o) (take 512 buffer)) old new
+    MadeBy ok (next_in_opening o) (unwrap_or (bytes_to_open o) (take SECTOR_BYTES buffer)) old new

@@ -1,13 +1,14 @@
 -- The sectors of the monitor's own commands, and the buffer of their bytes.
 use Rattle.std.specs.Prelude.{ℕ, ◌≡◌, ◌<◌, ◌≤◌, ◌+◌, Option, Some, None, List, ◌++◌, drop, replicate}
 use Rattle.fill_bitmap.specs.declared.area.Area.{Area}
+use Rattle.fill_bitmap.specs.declared.lengths.TheConstants.{SECTOR_BYTES}
 use Rattle.fill_bitmap.specs.Area.{bitmap_sectors_of, reserved_of}
 use Rattle.own_pio.specs.declared.job.OwnJob.{OwnJob}
 use Rattle.own_pio.specs.declared.job.OwnJob.TheVariants.{Read, Write, Flush}
 
 -- the sector of a bitmap without a block (own)
 unfoldable pub zero_bits : List ℕ
-zero_bits = replicate 512 0
+zero_bits = replicate SECTOR_BYTES 0
 
 -- a sector of the disk that holds the header or a part of the bitmap
 pub record IsKept (area : Area) (sector : ℕ) : Type 0 where
@@ -24,4 +25,4 @@ IsOnKept area Flush = Unit {0}
 -- the buffer once the bytes of the next write, if that is next, stand at its front (own)
 abbrev pub buffer_with : Option (List ℕ) → List ℕ → List ℕ
 buffer_with None buffer = buffer
-buffer_with (Some bytes) buffer = bytes ++ drop 512 buffer
+buffer_with (Some bytes) buffer = bytes ++ drop SECTOR_BYTES buffer

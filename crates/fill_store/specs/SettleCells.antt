@@ -7,7 +7,7 @@ use Rattle.fill_bitmap.specs.Bits.{sector_of}
 use Rattle.fill_bitmap.specs.Bitmap.{Sets, IsNested, blocks_in}
 use Rattle.fill_bitmap.specs.BlockSet.{IsWithin}
 use Rattle.fill_store.specs.declared.settle.SettleStep.{SettleStep}
-use Rattle.fill_store.specs.declared.settle.SettleStep.TheVariants.{FlushData, WriteBits, FlushBits, Ended}
+use Rattle.fill_store.specs.declared.settle.SettleStep.TheVariants.{FlushData, WriteBits, FlushBits, Nothing}
 use Rattle.fill_store.specs.Cells.{HasBits, MadeBy, KeepsBits}
 use Rattle.fill_store.specs.Settle.{SettleState, next_in_settling, bytes_to_settle}
 
@@ -23,7 +23,7 @@ HoldsAt area durable (WriteBits k) sets cells =
     (durable ≡ sets.frozen) × HasFrozen k area sets cells
 HoldsAt area durable FlushBits sets cells =
     (durable ≡ sets.frozen) × HasFrozen (bitmap_sectors_of area) area sets cells
-HoldsAt area durable Ended sets cells = IsWithin durable sets.frozen
+HoldsAt area durable Nothing sets cells = IsWithin durable sets.frozen
 
 -- a settling of the run `id`, with the bitmap and the drive's sectors as they are now: a cut leaves the
 -- stored blocks stored, and no block whose data isn't durable (own)
@@ -39,9 +39,9 @@ abbrev pub durable_behind : SettleStep → Sets → List Bool → List Bool
 durable_behind FlushData sets durable = sets.frozen
 durable_behind (WriteBits k) sets durable = durable
 durable_behind FlushBits sets durable = durable
-durable_behind Ended sets durable = durable
+durable_behind Nothing sets durable = durable
 
--- the same of a settling whose job ended, well or not (own)
+-- the blocks whose data is durable behind a settling's job that ended, well or not (own)
 abbrev pub durable_after : Bool → SettleState → Sets → List Bool → List Bool
 durable_after true s sets durable = durable_behind s.step sets durable
 durable_after false s sets durable = durable

@@ -5,14 +5,14 @@ ghost use Rattle.std.specs.Int.{w32, w64, to_be_bytes};
 ghost use Rattle.fill_bitmap.specs.Disk.{header_of};
 
 use byteorder::{BigEndian, ByteOrder};
-use fill_bitmap::Area;
+use fill_bitmap::{Area, SECTOR_BYTES};
 
 /// Fills `into` with the header of the run `id` on this area: `BMCFILL1`, the run's number, the image's sectors and a
 /// block's sectors with the high byte first, then zeros (own).
-pub fn header(area: &Area, id: u64, into: &mut [u8; 512])
+pub fn header(area: &Area, id: u64, into: &mut [u8; SECTOR_BYTES])
     ensures bytes { into.new ≡ header_of area.now id }
 {
-    *into = [0; 512];
+    *into = [0; SECTOR_BYTES];
     into[..8].copy_from_slice(b"BMCFILL1");
     put_numbers(area, id, &mut into[8..]);
 }

@@ -10,7 +10,7 @@ ghost use Rattle.fill_store.specs.Opening.{opening_at, opening_of, next_in_openi
 
 use crate::header_bytes::header;
 use crate::sectors::{front, put, sector_of_bits};
-use fill_bitmap::{Area, Bitmap};
+use fill_bitmap::{Area, Bitmap, SECTOR_BYTES};
 use own_pio::OwnJob;
 use std::marker::Model;
 
@@ -20,13 +20,14 @@ pub(crate) enum OpeningStep {
     ReadHeader,
     // The header is the run's, and this sector of the bitmap is read.
     ReadBits(u32),
-    // It isn't, and this sector of the bitmap is written.
+    // The header isn't the run's, and this sector of the bitmap is written.
     WriteZeros(u32),
     FlushZeros,
     // The empty bitmap is durable by now. Else a cut could leave a header before whatever the disk had there.
     WriteHeader,
     FlushHeader,
-    Ended,
+    // The opening has ended.
+    Nothing,
 }
 
 /// What the monitor has the drive do from power-on until it knows which blocks of the image are stored (own).
@@ -58,7 +59,7 @@ impl Opening {
         ensures most { jobs_of_opening result ≤ bitmap_sectors_of area + 4 }
     {
         let step = if area.image == 0 {
-            OpeningStep::Ended
+            OpeningStep::Nothing
         } else {
             OpeningStep::ReadHeader
         };
@@ -79,7 +80,7 @@ impl Opening {
             OpeningStep::WriteZeros(k) => Some(OwnJob::Write(sector_of_bits(&self.area, k), 1)),
             OpeningStep::FlushZeros | OpeningStep::FlushHeader => Some(OwnJob::Flush),
             OpeningStep::WriteHeader => Some(OwnJob::Write(self.area.reserved(), 1)),
-            OpeningStep::Ended => None,
+            OpeningStep::Nothing => None,
         }
     }
 
@@ -88,10 +89,10 @@ impl Opening {
     pub fn ended(&mut self, ok: bool, bitmap: &mut Bitmap, sector: &mut [u8])
         requires stands { 0 < jobs_of_opening self.old }
         requires blocks { blocks_in bitmap.old ≡ blocks_of self.old.area }
-        requires room { 512 ≤ length sector.old }
-        ensures state { self.new ≡ opening_after ok (take 512 sector.old) self.old }
+        requires room { SECTOR_BYTES ≤ length sector.old }
+        ensures state { self.new ≡ opening_after ok (take SECTOR_BYTES sector.old) self.old }
         ensures sets { bitmap.new
-            ≡ sets_after_opening ok (take 512 sector.old) self.old bitmap.old }
+            ≡ sets_after_opening ok (take SECTOR_BYTES sector.old) self.old bitmap.old }
         ensures buffer { sector.new ≡ buffer_with (bytes_to_open self.new) sector.old }
         ensures lowered { IsTrue ok → jobs_of_opening self.new < jobs_of_opening self.old }
         ensures failed { ok ≡ false → self.new ≡ self.old }
@@ -120,12 +121,12 @@ fn step_behind(
     requires reached { IsReached area.now step }
     requires stands { 0 < jobs_at area.now step }
     requires blocks { blocks_in bitmap.old ≡ blocks_of area.now }
-    requires room { 512 ≤ length sector.now }
+    requires room { SECTOR_BYTES ≤ length sector.now }
     ensures step { let o = opening_at area.now id step in
-        opening_at area.now id result ≡ opening_after ok (take 512 sector.now) o }
+        opening_at area.now id result ≡ opening_after ok (take SECTOR_BYTES sector.now) o }
     ensures reached { IsReached area.now result }
     ensures sets { let o = opening_at area.now id step in
-        bitmap.new ≡ sets_after_opening ok (take 512 sector.now) o bitmap.old }
+        bitmap.new ≡ sets_after_opening ok (take SECTOR_BYTES sector.now) o bitmap.old }
     ensures lowered { IsTrue ok → jobs_at area.now result < jobs_at area.now step }
     ensures failed { ok ≡ false → result ≡ step }
     ensures count { blocks_in bitmap.new ≡ blocks_in bitmap.old }
@@ -142,7 +143,7 @@ fn advanced(
     id: u64,
     step: OpeningStep,
     bitmap: &mut Bitmap,
-    bytes: &[u8; 512],
+    bytes: &[u8; SECTOR_BYTES],
 ) -> OpeningStep
     requires suitable { IsSuitable area.now }
     requires reached { IsReached area.now step }
@@ -160,19 +161,19 @@ fn advanced(
         OpeningStep::WriteZeros(k) => zeros_from(area, k + 1),
         OpeningStep::FlushZeros => OpeningStep::WriteHeader,
         OpeningStep::WriteHeader => OpeningStep::FlushHeader,
-        OpeningStep::FlushHeader | OpeningStep::Ended => OpeningStep::Ended,
+        OpeningStep::FlushHeader | OpeningStep::Nothing => OpeningStep::Nothing,
     }
 }
 
 // What follows the reading of the header: the disk's own bitmap counts only behind exactly this run's.
-fn header_read(area: &Area, id: u64, bytes: &[u8; 512]) -> OpeningStep
+fn header_read(area: &Area, id: u64, bytes: &[u8; SECTOR_BYTES]) -> OpeningStep
     requires suitable { IsSuitable area.now }
     requires image { 0 < area.now.image }
     ensures step { result ≡ step_after area.now id bytes.now OpeningStep.ReadHeader }
     ensures left { jobs_at area.now result ≤ bitmap_sectors_of area.now + 3 }
     ensures reached { IsReached area.now result }
 {
-    let mut wanted = [0; 512];
+    let mut wanted = [0; SECTOR_BYTES];
     header(area, id, &mut wanted);
     if *bytes == wanted {
         read_from(area, 0)
@@ -182,7 +183,7 @@ fn header_read(area: &Area, id: u64, bytes: &[u8; 512]) -> OpeningStep
 }
 
 // What follows the reading of the bitmap's sector `k`.
-fn bits_read(area: &Area, k: u32, bitmap: &mut Bitmap, bytes: &[u8; 512]) -> OpeningStep
+fn bits_read(area: &Area, k: u32, bitmap: &mut Bitmap, bytes: &[u8; SECTOR_BYTES]) -> OpeningStep
     requires suitable { IsSuitable area.now }
     requires there { k < bitmap_sectors_of area.now }
     requires blocks { blocks_in bitmap.old ≡ blocks_of area.now }
@@ -205,7 +206,7 @@ fn read_from(area: &Area, k: u32) -> OpeningStep
     ensures reached { IsReached area.now result }
 {
     if k == area.bitmap_sectors() {
-        OpeningStep::Ended
+        OpeningStep::Nothing
     } else {
         OpeningStep::ReadBits(k)
     }
@@ -229,7 +230,7 @@ fn zeros_from(area: &Area, k: u32) -> OpeningStep
 
 // Puts the bytes of a step that writes at the front of the buffer.
 fn fill(area: &Area, id: u64, step: OpeningStep, buffer: &mut [u8])
-    requires { 512 ≤ length buffer.old }
+    requires { SECTOR_BYTES ≤ length buffer.old }
     ensures buffer { buffer.new ≡ buffer_with (bytes_at area.now id step) buffer.old }
 {
     match step {
@@ -239,24 +240,26 @@ fn fill(area: &Area, id: u64, step: OpeningStep, buffer: &mut [u8])
         | OpeningStep::ReadBits(_)
         | OpeningStep::FlushZeros
         | OpeningStep::FlushHeader
-        | OpeningStep::Ended => {}
+        | OpeningStep::Nothing => {}
     }
 }
 
+// Puts a sector of zeros at the front of the buffer.
 #[tactic(auto, unfolding(crate::specs::Sectors::zero_bits))]
 fn fill_zeros(buffer: &mut [u8])
-    requires { 512 ≤ length buffer.old }
+    requires { SECTOR_BYTES ≤ length buffer.old }
     ensures buffer { buffer.new ≡ buffer_with (Some zero_bits) buffer.old }
 {
-    put(&[0; 512], buffer);
+    put(&[0; SECTOR_BYTES], buffer);
 }
 
+// Puts the run's header at the front of the buffer.
 fn fill_header(area: &Area, id: u64, buffer: &mut [u8])
-    requires { 512 ≤ length buffer.old }
+    requires { SECTOR_BYTES ≤ length buffer.old }
     ensures buffer { buffer.new
         ≡ buffer_with (bytes_at area.now id OpeningStep.WriteHeader) buffer.old }
 {
-    let mut bytes = [0; 512];
+    let mut bytes = [0; SECTOR_BYTES];
     header(area, id, &mut bytes);
     put(&bytes, buffer);
 }

@@ -3,7 +3,7 @@
 ghost use Rattle.std.specs.Prelude.{◌≡◌, ◌<◌, ◌≤◌, ◌++◌, length, take, drop};
 ghost use Rattle.fill_bitmap.specs.Area.{IsSuitable, bitmap_sectors_of, sector_of_bits};
 
-use fill_bitmap::Area;
+use fill_bitmap::{Area, SECTOR_BYTES};
 
 // The sector of the disk that holds the bitmap's sector `k`.
 pub(crate) fn sector_of_bits(area: &Area, k: u32) -> u64
@@ -15,19 +15,19 @@ pub(crate) fn sector_of_bits(area: &Area, k: u32) -> u64
 }
 
 // Puts a sector's bytes at the front of the buffer.
-pub(crate) fn put(bytes: &[u8; 512], buffer: &mut [u8])
-    requires { 512 ≤ length buffer.old }
-    ensures buffer { buffer.new ≡ bytes.now ++ drop 512 buffer.old }
+pub(crate) fn put(bytes: &[u8; SECTOR_BYTES], buffer: &mut [u8])
+    requires { SECTOR_BYTES ≤ length buffer.old }
+    ensures buffer { buffer.new ≡ bytes.now ++ drop SECTOR_BYTES buffer.old }
 {
-    buffer[..512].copy_from_slice(bytes);
+    buffer[..SECTOR_BYTES].copy_from_slice(bytes);
 }
 
 // The bytes at the front of the buffer.
-pub(crate) fn front(buffer: &[u8]) -> [u8; 512]
-    requires { 512 ≤ length buffer.now }
-    ensures bytes { result ≡ take 512 buffer.now }
+pub(crate) fn front(buffer: &[u8]) -> [u8; SECTOR_BYTES]
+    requires { SECTOR_BYTES ≤ length buffer.now }
+    ensures bytes { result ≡ take SECTOR_BYTES buffer.now }
 {
-    let mut bytes = [0; 512];
-    bytes.copy_from_slice(&buffer[..512]);
+    let mut bytes = [0; SECTOR_BYTES];
+    bytes.copy_from_slice(&buffer[..SECTOR_BYTES]);
     bytes
 }

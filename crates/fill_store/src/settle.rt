@@ -9,7 +9,7 @@ ghost use Rattle.fill_store.specs.SettleCells.{Settles, MadeBySettling, durable_
 ghost use Rattle.fill_store.specs.Settle.{settle_at, settle_of, next_in_settling, jobs_of_settling, settle_after, sets_after_settling, bytes_to_settle, IsReached, bits_from, jobs_at, step_after, sets_behind, bytes_at};
 
 use crate::sectors::{put, sector_of_bits};
-use fill_bitmap::{Area, Bitmap};
+use fill_bitmap::{Area, Bitmap, SECTOR_BYTES};
 use own_pio::OwnJob;
 use std::marker::Model;
 
@@ -20,7 +20,8 @@ pub(crate) enum SettleStep {
     // The data of the frozen blocks is durable by now: a bit that a cut leaves says that its block may be read.
     WriteBits(u32),
     FlushBits,
-    Ended,
+    // The settling has ended, well or not.
+    Nothing,
 }
 
 /// What the monitor has the drive do so that the frozen blocks become stored (own).
@@ -68,7 +69,7 @@ impl Settle {
         match self.step {
             SettleStep::FlushData | SettleStep::FlushBits => Some(OwnJob::Flush),
             SettleStep::WriteBits(k) => Some(OwnJob::Write(sector_of_bits(&self.area, k), 1)),
-            SettleStep::Ended => None,
+            SettleStep::Nothing => None,
         }
     }
 
@@ -77,7 +78,7 @@ impl Settle {
     pub fn ended(&mut self, ok: bool, bitmap: &mut Bitmap, sector: &mut [u8]) -> bool
         requires stands { 0 < jobs_of_settling self.old }
         requires blocks { blocks_in bitmap.old ≡ blocks_of self.old.area }
-        requires room { 512 ≤ length sector.old }
+        requires room { SECTOR_BYTES ≤ length sector.old }
         ensures answer { result ≡ ok }
         ensures state { self.new ≡ settle_after ok self.old }
         ensures sets { bitmap.new ≡ sets_after_settling ok self.old bitmap.old }
@@ -115,7 +116,7 @@ fn step_behind(area: &Area, step: SettleStep, ok: bool, bitmap: &mut Bitmap) -> 
     ensures count { blocks_in bitmap.new ≡ blocks_in bitmap.old }
 {
     if !ok {
-        return SettleStep::Ended;
+        return SettleStep::Nothing;
     }
     advanced(area, step, bitmap)
 }
@@ -136,9 +137,9 @@ fn advanced(area: &Area, step: SettleStep, bitmap: &mut Bitmap) -> SettleStep
         SettleStep::WriteBits(k) => bits_from(area, k + 1),
         SettleStep::FlushBits => {
             bitmap.store_frozen();
-            SettleStep::Ended
+            SettleStep::Nothing
         }
-        SettleStep::Ended => SettleStep::Ended,
+        SettleStep::Nothing => SettleStep::Nothing,
     }
 }
 
@@ -160,22 +161,23 @@ fn bits_from(area: &Area, k: u32) -> SettleStep
 // Puts the bytes of a step that writes at the front of the buffer.
 fn fill(step: SettleStep, bitmap: &Bitmap, buffer: &mut [u8])
     requires reached { IsReached (sectors_in bitmap.now) step }
-    requires room { 512 ≤ length buffer.old }
+    requires room { SECTOR_BYTES ≤ length buffer.old }
     ensures buffer { buffer.new ≡ buffer_with (bytes_at step bitmap.now) buffer.old }
 {
     match step {
         SettleStep::WriteBits(k) => fill_bits(k, bitmap, buffer),
-        SettleStep::FlushData | SettleStep::FlushBits | SettleStep::Ended => {}
+        SettleStep::FlushData | SettleStep::FlushBits | SettleStep::Nothing => {}
     }
 }
 
+// Puts the bits of the frozen blocks in the bitmap's sector `k` at the front of the buffer.
 fn fill_bits(k: u32, bitmap: &Bitmap, buffer: &mut [u8])
     requires there { k < sectors_in bitmap.now }
-    requires room { 512 ≤ length buffer.old }
+    requires room { SECTOR_BYTES ≤ length buffer.old }
     ensures buffer { buffer.new
         ≡ buffer_with (bytes_at (SettleStep.WriteBits k) bitmap.now) buffer.old }
 {
-    let mut bytes = [0; 512];
+    let mut bytes = [0; SECTOR_BYTES];
     bitmap.frozen_sector(k, &mut bytes);
     put(&bytes, buffer);
 }

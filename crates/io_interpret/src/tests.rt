@@ -57,75 +57,75 @@ fn order(kind: Kind, first: u64, count: u32) -> Result<Request, Refused> {
 }
 
 // First sector and count of a range; the classes of a read, a write and a verify of it.
-type RangeRow = (u64, u32, [Class; 3]);
+type RangeRow = (u64, u32, Class, Class, Class);
 
 const RANGES: [(Sizes, &[RangeRow]); 4] = [
     // Empty are sectors 8 to 15, and the first reserved one is 34.
     (
         [8, 24, 37],
         &[
-            (0, 8, [Local, Local, Local]),
-            (7, 1, [Local, Local, Local]),
-            (7, 2, [Redirected, FillFirst, Local]),
-            (8, 1, [Redirected, FillFirst, Local]),
-            (11, 3, [Redirected, FillFirst, Local]),
-            (15, 1, [Redirected, FillFirst, Local]),
-            (15, 9, [Redirected, FillFirst, Local]),
-            (0, 24, [Redirected, FillFirst, Local]),
-            (16, 1, [Local, Local, Local]),
-            (16, 8, [Local, Local, Local]),
-            (23, 2, [Local, Local, Local]),
-            (24, 10, [Local, Local, Local]),
-            (33, 1, [Local, Local, Local]),
-            (0, 34, [Redirected, FillFirst, Local]),
-            (33, 2, [Reserved, Reserved, Reserved]),
-            (34, 1, [Reserved, Reserved, Reserved]),
-            (36, 1, [Reserved, Reserved, Reserved]),
-            (0, 35, [Reserved, Reserved, Reserved]),
-            (0, 37, [Reserved, Reserved, Reserved]),
+            (0, 8, Local, Local, Local),
+            (7, 1, Local, Local, Local),
+            (7, 2, Redirected, FillFirst, Local),
+            (8, 1, Redirected, FillFirst, Local),
+            (11, 3, Redirected, FillFirst, Local),
+            (15, 1, Redirected, FillFirst, Local),
+            (15, 9, Redirected, FillFirst, Local),
+            (0, 24, Redirected, FillFirst, Local),
+            (16, 1, Local, Local, Local),
+            (16, 8, Local, Local, Local),
+            (23, 2, Local, Local, Local),
+            (24, 10, Local, Local, Local),
+            (33, 1, Local, Local, Local),
+            (0, 34, Redirected, FillFirst, Local),
+            (33, 2, Reserved, Reserved, Reserved),
+            (34, 1, Reserved, Reserved, Reserved),
+            (36, 1, Reserved, Reserved, Reserved),
+            (0, 35, Reserved, Reserved, Reserved),
+            (0, 37, Reserved, Reserved, Reserved),
             // No order of a drive is like these: without a sector, or with more than any drive has.
-            (9, 0, [Local, Local, Local]),
-            (u64::MAX, 1, [Reserved, Reserved, Reserved]),
-            (u64::MAX, u32::MAX, [Reserved, Reserved, Reserved]),
+            (9, 0, Local, Local, Local),
+            (u64::MAX, 1, Reserved, Reserved, Reserved),
+            (u64::MAX, u32::MAX, Reserved, Reserved, Reserved),
         ],
     ),
     // Empty are sectors 16 to 31, and the first reserved one is 58.
     (
         [16, 48, 61],
         &[
-            (8, 8, [Local, Local, Local]),
-            (15, 2, [Redirected, FillFirst, Local]),
-            (31, 1, [Redirected, FillFirst, Local]),
-            (32, 26, [Local, Local, Local]),
-            (0, 58, [Redirected, FillFirst, Local]),
-            (57, 2, [Reserved, Reserved, Reserved]),
-            (0, 61, [Reserved, Reserved, Reserved]),
+            (8, 8, Local, Local, Local),
+            (15, 2, Redirected, FillFirst, Local),
+            (31, 1, Redirected, FillFirst, Local),
+            (32, 26, Local, Local, Local),
+            (0, 58, Redirected, FillFirst, Local),
+            (57, 2, Reserved, Reserved, Reserved),
+            (0, 61, Reserved, Reserved, Reserved),
         ],
     ),
     // Empty are sectors 32 to 63, and the first reserved one is 106.
     (
         [32, 96, 109],
         &[
-            (16, 16, [Local, Local, Local]),
-            (31, 2, [Redirected, FillFirst, Local]),
-            (63, 1, [Redirected, FillFirst, Local]),
-            (64, 42, [Local, Local, Local]),
-            (0, 106, [Redirected, FillFirst, Local]),
-            (105, 2, [Reserved, Reserved, Reserved]),
-            (0, 109, [Reserved, Reserved, Reserved]),
+            (16, 16, Local, Local, Local),
+            (31, 2, Redirected, FillFirst, Local),
+            (63, 1, Redirected, FillFirst, Local),
+            (64, 42, Local, Local, Local),
+            (0, 106, Redirected, FillFirst, Local),
+            (105, 2, Reserved, Reserved, Reserved),
+            (0, 109, Reserved, Reserved, Reserved),
         ],
     ),
     // Empty are sectors 64 to 127, and the first reserved one is 202.
     (
         [64, 192, 205],
         &[
-            (32, 32, [Local, Local, Local]),
-            (63, 2, [Redirected, FillFirst, Local]),
-            (127, 1, [Redirected, FillFirst, Local]),
-            (128, 74, [Local, Local, Local]),
-            (0, 202, [Redirected, FillFirst, Local]),
-            (201, 2, [Reserved, Reserved, Reserved]),
-            (0, 205, [Reserved, Reserved, Reserved]),
+            (32, 32, Local, Local, Local),
+            (63, 2, Redirected, FillFirst, Local),
+            (127, 1, Redirected, FillFirst, Local),
+            (128, 74, Local, Local, Local),
+            (0, 202, Redirected, FillFirst, Local),
+            (201, 2, Reserved, Reserved, Reserved),
+            (0, 205, Reserved, Reserved, Reserved),
         ],
     ),
 ];
@@ -135,14 +135,17 @@ fn first_other_class(rows: &[RangeRow], area: &Area, bitmap: &Bitmap) -> Option<
     requires suitable { IsSuitable area.now }
     requires blocks { blocks_in bitmap.now ≡ blocks_of area.now }
 {
-    for (first, count, classes) in rows {
-        let found = [
-            classify(&order(Kind::Read, *first, *count), area, bitmap),
-            classify(&order(Kind::Write, *first, *count), area, bitmap),
-            classify(&order(Kind::Verify, *first, *count), area, bitmap),
-        ];
-        if found != *classes {
-            return Some((*first, *count, found));
+    for row in rows {
+        let (first, count, _, _, _) = *row;
+        let found = (
+            first,
+            count,
+            classify(&order(Kind::Read, first, count), area, bitmap),
+            classify(&order(Kind::Write, first, count), area, bitmap),
+            classify(&order(Kind::Verify, first, count), area, bitmap),
+        );
+        if found != *row {
+            return Some(found);
         }
     }
     None
@@ -255,18 +258,19 @@ fn first_other_piece(rows: &[PieceRow], area: &Area, bitmap: &Bitmap) -> Option<
     requires suitable { IsSuitable area.now }
     requires blocks { blocks_in bitmap.now ≡ blocks_of area.now }
 {
-    for (first, end, count, empty) in rows {
+    for row in rows {
+        let (first, end, count, empty) = *row;
         let piece = Piece {
-            first: *first,
-            count: *count,
-            empty: *empty,
+            first,
+            count,
+            empty,
         };
-        if *first >= *end {
-            return Some(((*first, *end, *count, *empty), piece));
+        if first >= end {
+            return Some((*row, piece));
         }
-        let found = first_piece(*first, *end, area, bitmap);
+        let found = first_piece(first, end, area, bitmap);
         if found != piece {
-            return Some(((*first, *end, *count, *empty), found));
+            return Some((*row, found));
         }
     }
     None

@@ -7,7 +7,7 @@ use Rattle.ata_taskfile.specs.TaskFile.{has_bit}
 use Rattle.ata_taskfile.specs.Order.{inputs, taken, first_28, count_8}
 use Rattle.ata_taskfile.specs.Order as order
 use Rattle.own_pio.specs.declared.job.OwnJob.TheVariants.{Read, Write}
-use Rattle.own_pio.specs.Job.{IsNamed, order_of}
+use Rattle.own_pio.specs.Job.{IsNamed, job_order}
 use Rattle.own_pio.specs.Named.{named}
 
 -- no bit of a number is shared with 0
@@ -36,7 +36,7 @@ address : (first : ℕ) → first < 2 ^ 28
 address first below = omega arith
 
 pub read_named : (first count : ℕ) (f : TaskFile) (sectors : ℕ) → IsNamed first count
-    → taken (order.order_of 32 (inputs (named first count f)) sectors) ≡ order_of (Read first count) sectors
+    → taken (order.order_of 32 (inputs (named first count f)) sectors) ≡ job_order (Read first count) sectors
 read_named first count f sectors fit =
     let first_is = address first (omega (arith, fit.below, fit.some)) in
     let lba = lba_set first count fit in
@@ -44,7 +44,7 @@ read_named first count f sectors fit =
     grind (arith, first_is, lba, some)
 
 pub write_named : (first count : ℕ) (f : TaskFile) (sectors : ℕ) → IsNamed first count
-    → taken (order.order_of 48 (inputs (named first count f)) sectors) ≡ order_of (Write first count) sectors
+    → taken (order.order_of 48 (inputs (named first count f)) sectors) ≡ job_order (Write first count) sectors
 write_named first count f sectors fit =
     let first_is = address first (omega (arith, fit.below, fit.some)) in
     let lba = lba_set first count fit in

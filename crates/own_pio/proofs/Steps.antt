@@ -16,19 +16,20 @@ use Rattle.plain_drive.specs.Change.{cells_after, change_in}
 use Rattle.plain_drive.specs.Step.{stepped, failed_step, step_made}
 use Rattle.own_pio.specs.declared.job.OwnJob.{OwnJob}
 use Rattle.own_pio.specs.declared.job.OwnJob.TheVariants.{Read, Write, Flush}
-use Rattle.own_pio.specs.Job.{IsFit, request_of, order_of}
+use Rattle.own_pio.specs.Job.{IsFit, job_request, job_order}
 use Rattle.own_pio.specs.Running.{IsRunning, StandsIn}
 
--- a good step in a phase, and a bad one, with what they do to the sectors
+-- a good step from a phase, with what it does to the sectors
 abbrev pub gone : Phase → Plain → Plain
 gone phase p = with_cells (cells_after (change_in phase p) p.device.cells) (stepped phase p)
 
+-- a failing step from a phase, which leaves the sectors
 abbrev pub gave_up : Phase → Plain → Plain
 gave_up phase p = with_cells p.device.cells (failed_step phase p)
 
 -- an order of a job that isn't refused is its request
-pub good_order : (job : OwnJob) (order : Request) (sectors : ℕ) → Good order ≡ order_of job sectors
-    → Good order ≡ Good (request_of job)
+pub good_order : (job : OwnJob) (order : Request) (sectors : ℕ) → Good order ≡ job_order job sectors
+    → Good order ≡ Good (job_request job)
 good_order job order sectors e = grind arith
 
 -- DEV stays where an address comes into Device
@@ -45,7 +46,7 @@ pub stands_at : (job : OwnJob) (done : ℕ) (phase : Phase) (p : Plain) → p.de
     → IsRunning job done p.device → StandsIn phase job done p.device
 stands_at job done phase p e r = let P : Phase → Type 0 = λ x. StandsIn x job done p.device in subst P e r.stands
 
--- a step of each kind of job
+-- a good step of a read
 read_running : (first count done : ℕ) (order : Request) (position : ℕ) (p : Plain) → IsFit (Read first count)
     → p.device.file.phase ≡ Busy (Good order) position → IsLawful p.device
     → IsRunning (Read first count) done p.device → IsRunning (Read first count) done
@@ -55,6 +56,7 @@ read_running first count done order position p fit e l r =
     let is = good_order (Read first count) order p.device.sectors s.order_is in
     grind (arith, s, is)
 
+-- a good step of a write
 write_running : (first count done : ℕ) (order : Request) (position : ℕ) (p : Plain) → IsFit (Write first count)
     → p.device.file.phase ≡ Busy (Good order) position → IsLawful p.device
     → IsRunning (Write first count) done p.device → IsRunning (Write first count) done
@@ -64,6 +66,7 @@ write_running first count done order position p fit e l r =
     let is = good_order (Write first count) order p.device.sectors s.order_is in
     grind (arith, s, is)
 
+-- a good step of a flush
 flush_running : (done : ℕ) (order : Request) (position : ℕ) (p : Plain)
     → p.device.file.phase ≡ Busy (Good order) position
     → IsRunning Flush done p.device → IsRunning Flush done (gone (Busy (Good order) position) p).device
@@ -72,7 +75,7 @@ flush_running done order position p e r =
     let is = good_order Flush order p.device.sectors s.order_is in
     grind (arith, s, is)
 
--- a step that fails
+-- a failing step of a job
 failed_running : (job : OwnJob) (done : ℕ) (order : Request) (position : ℕ) (p : Plain) → IsRunning job done p.device
     → IsRunning job done (gave_up (Busy (Good order) position) p).device
 failed_running job done order position p r = grind (arith, dev_kept)

@@ -4,8 +4,10 @@ use Rattle.ata_taskfile.specs.declared.Kind.TheVariants as kind
 use Rattle.ata_taskfile.specs.declared.Form.TheVariants.{NoMove, PioIn, PioOut}
 use Rattle.ata_taskfile.specs.declared.Request.{Request}
 use Rattle.ata_taskfile.specs.declared.Taken.{Taken}
+use Rattle.ata_taskfile.specs.declared.registers.TheConstants.{READ_SECTORS, WRITE_SECTORS, FLUSH_CACHE}
 use Rattle.ata_taskfile.specs.Order.{taken, within}
 use Rattle.own_pio.specs.declared.job.OwnJob.{OwnJob}
+use Rattle.own_pio.specs.declared.job.TheConstants.{MOST_MOVED}
 use Rattle.own_pio.specs.declared.job.OwnJob.TheVariants.{Read, Write, Flush}
 
 -- the first sector of a job; 0 of a flush
@@ -27,29 +29,29 @@ polls_of (Read first count) = count
 polls_of (Write first count) = count + 1
 polls_of Flush = 1
 
--- the command of a job: READ SECTOR(S), WRITE SECTOR(S), FLUSH CACHE (ATA/ATAPI-6)
+-- the command of a job (ATA/ATAPI-6, READ SECTOR(S), WRITE SECTOR(S), FLUSH CACHE)
 abbrev pub command_of : OwnJob → ℕ
-command_of (Read first count) = 32
-command_of (Write first count) = 48
-command_of Flush = 231
+command_of (Read first count) = READ_SECTORS
+command_of (Write first count) = WRITE_SECTORS
+command_of Flush = FLUSH_CACHE
 
 -- what a job asks the drive for
-abbrev pub request_of : OwnJob → Request
-request_of (Read first count) =
+abbrev pub job_request : OwnJob → Request
+job_request (Read first count) =
     record { kind = kind.Read; form = PioIn; extended = false; first = first; count = count }
-request_of (Write first count) =
+job_request (Write first count) =
     record { kind = kind.Write; form = PioOut; extended = false; first = first; count = count }
-request_of Flush =
+job_request Flush =
     record { kind = kind.Flush; form = NoMove; extended = false; first = 0; count = 0 }
 
--- the order that a drive of so many sectors makes of it
-abbrev pub order_of : OwnJob → ℕ → Taken
-order_of job sectors = taken (within sectors (request_of job))
+-- the order that a drive of so many sectors makes of a job
+abbrev pub job_order : OwnJob → ℕ → Taken
+job_order job sectors = taken (within sectors (job_request job))
 
 -- sectors that a command of 28 bits can name, and no more than the monitor moves at once (own)
 pub record IsNamed (first count : ℕ) : Type 0 where
   pub some : 0 < count
-  pub few : count ≤ 64
+  pub few : count ≤ MOST_MOVED
   pub below : first + count ≤ 2 ^ 28
 
 -- a job that moves sectors

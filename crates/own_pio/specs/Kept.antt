@@ -2,6 +2,7 @@
 use Rattle.std.specs.Prelude.{◌≡◌, ℕ, Bool, true, false, not, ◌==◌, ◌+◌, ◌-◌, ◌*◌, zero, suc, List}
 use Rattle.ata_taskfile.specs.declared.Phase.{Phase}
 use Rattle.ata_taskfile.specs.declared.Phase.TheVariants.{Reset, Idle, Busy, Ready}
+use Rattle.ata_taskfile.specs.declared.registers.TheConstants.{SECTOR_BYTES, BLOCK_WORDS}
 use Rattle.ata_taskfile.specs.Device.{Device, Cell, powered_on}
 use Rattle.plain_drive.specs.Plain.{appended, all_flushed, sector_value, words_of}
 use Rattle.plain_drive.specs.Words.{bytes_of}
@@ -17,7 +18,7 @@ use Rattle.own_pio.specs.Poll.{done_by}
 abbrev pub written_over : ℕ → ℕ → List ℕ → List Cell → List Cell
 written_over first zero bytes cells = cells
 written_over first (suc n) bytes cells =
-    appended (first + n) (bytes_of (words_at 256 (512 * n) bytes))
+    appended (first + n) (bytes_of (words_at BLOCK_WORDS (SECTOR_BYTES * n) bytes))
     (written_over first n bytes cells)
 
 -- how many of the blocks of a write that went are in their cells: while the drive is at work, and where
@@ -58,7 +59,7 @@ holds_block (Ready order position left) job done = false
 abbrev pub read_over : ℕ → ℕ → List Cell → List ℕ → List ℕ
 read_over first zero cells bytes = bytes
 read_over first (suc n) cells bytes =
-    put_over (512 * n) (bytes_of (words_of (sector_value (first + n) (powered_on cells 0))))
+    put_over (SECTOR_BYTES * n) (bytes_of (words_of (sector_value (first + n) (powered_on cells 0))))
     (read_over first n cells bytes)
 
 -- the bytes of a job of which so many blocks went, by those at its begin
@@ -73,7 +74,7 @@ pub record IsDoneSoFar (job : OwnJob) (done : ℕ) (bytes start : List ℕ) (ori
     (d : Device) : Type 0 where
   pub cells : d.cells ≡ cells_in d.file.phase d.file.failed job done bytes origin
   pub block : holds_block d.file.phase job done ≡ true
-      → d.block ≡ words_at 256 (512 * (done - 1)) bytes
+      → d.block ≡ words_at BLOCK_WORDS (SECTOR_BYTES * (done - 1)) bytes
   pub bytes_are : bytes ≡ bytes_in job done origin start
 
 -- the store of a job that is done
@@ -83,13 +84,13 @@ cells_done (Write first count) bytes origin = written_over first count bytes ori
 cells_done Flush bytes origin = all_flushed origin
 
 -- a job that is done: all its sectors were read, written or made durable
-pub record IsDone (job : OwnJob) (bytes start : List ℕ) (origin : List Cell)
+pub record IsJobDone (job : OwnJob) (bytes start : List ℕ) (origin : List Cell)
     (d : Device) : Type 0 where
   pub cells : d.cells ≡ cells_done job bytes origin
   pub bytes_are : bytes ≡ bytes_in job (count_of job) origin start
 
 -- a job that failed: each sector of a write is old or new, and no other changed
-pub record IsFailed (job : OwnJob) (done : ℕ) (bytes start : List ℕ) (origin : List Cell)
+pub record IsJobFailed (job : OwnJob) (done : ℕ) (bytes start : List ℕ) (origin : List Cell)
     (d : Device) : Type 0 where
   pub cells : d.cells ≡ cells_in Idle true job done bytes origin
   pub bytes_are : bytes ≡ bytes_in job done origin start
@@ -100,5 +101,5 @@ Leaves Waiting job left bytes start origin d =
     IsDoneSoFar job (done_by job left) bytes start origin d
 Leaves Moved job left bytes start origin d =
     IsDoneSoFar job (done_by job (left - 1)) bytes start origin d
-Leaves Done job left bytes start origin d = IsDone job bytes start origin d
-Leaves Failed job left bytes start origin d = IsFailed job (done_by job left) bytes start origin d
+Leaves Done job left bytes start origin d = IsJobDone job bytes start origin d
+Leaves Failed job left bytes start origin d = IsJobFailed job (done_by job left) bytes start origin d

@@ -3,6 +3,7 @@ use Rattle.std.specs.Prelude.{◌≡◌, ℕ, ◌+◌, true, zero, suc, length, 
 use Rattle.ata_taskfile.specs.declared.Taken.TheVariants.{Good, Bad}
 use Rattle.ata_taskfile.specs.declared.Phase.{Phase}
 use Rattle.ata_taskfile.specs.declared.Phase.TheVariants.{Reset, Idle, Busy, Ready}
+use Rattle.ata_taskfile.specs.declared.registers.TheConstants.{BLOCK_WORDS}
 use Rattle.ata_taskfile.specs.Data.{is_given, is_wanted, left_in, block_read}
 use Rattle.ata_taskfile.specs.Device.{Device}
 use Rattle.plain_drive.specs.Plain.{words_of}
@@ -10,13 +11,13 @@ use Rattle.plain_drive.specs.Plain.{words_of}
 -- a whole block waits in Data
 pub record IsGivenWhole (d : Device) : Type 0 where
   pub given : is_given d.file.phase ≡ true
-  pub left : left_in d.file.phase ≡ 256
-  pub whole : length d.block ≡ 256
+  pub left : left_in d.file.phase ≡ BLOCK_WORDS
+  pub whole : length d.block ≡ BLOCK_WORDS
 
 -- a whole block is wanted in Data
 pub record IsWantedWhole (d : Device) : Type 0 where
   pub wanted : is_wanted d.file.phase ≡ true
-  pub left : left_in d.file.phase ≡ 256
+  pub left : left_in d.file.phase ≡ BLOCK_WORDS
   pub none : d.block ≡ []
 
 -- the phase when so many words of a block are left to be read; with none left the block was read

@@ -1,6 +1,6 @@
 -- The registers that name sectors for a command of 28 bits.
 use Rattle.std.specs.Prelude.{ℕ, Bool, true, false, ◌+◌, ◌/◌, ◌%◌}
-use Rattle.ata_taskfile.specs.declared.registers.TheConstants.{NIEN}
+use Rattle.ata_taskfile.specs.declared.registers.TheConstants.{NIEN, LBA}
 use Rattle.ata_taskfile.specs.declared.task_file.TaskFile.{TaskFile}
 use Rattle.ata_taskfile.specs.TaskFile.{moved_in}
 
@@ -16,5 +16,5 @@ named first count f = record f {
   low = moved_in (first % 256) f.low;
   mid = moved_in (first / 256 % 256) f.mid;
   high = moved_in (first / 65536 % 256) f.high;
-  device = 64 + first / 16777216;
+  device = LBA + first / 16777216;
 }

@@ -1,6 +1,6 @@
 -- What a poll answers and changes.
 use Rattle.std.specs.Prelude.{ℕ, Bool, true, false, ◌+◌, ◌-◌, ◌*◌, ◌==◌, if◌then◌else◌, List}
-use Rattle.ata_taskfile.specs.declared.registers.TheConstants.{BSY, DRQ, ERR}
+use Rattle.ata_taskfile.specs.declared.registers.TheConstants.{SECTOR_BYTES, BSY, DRQ, ERR}
 use Rattle.ata_taskfile.specs.declared.task_file.TaskFile.{TaskFile}
 use Rattle.ata_taskfile.specs.TaskFile.{has_bit, status}
 use Rattle.ata_taskfile.specs.Device.{Device}
@@ -53,9 +53,9 @@ left_after Failed left = 0
 abbrev pub bytes_read : Poll → ℕ → ℕ → Device → List ℕ → List ℕ
 bytes_read Waiting first done d bytes = bytes
 bytes_read Moved first done d bytes =
-    put_over (512 * done) (bytes_of (words_of (sector_value (first + done) d))) bytes
+    put_over (SECTOR_BYTES * done) (bytes_of (words_of (sector_value (first + done) d))) bytes
 bytes_read Done first done d bytes =
-    put_over (512 * done) (bytes_of (words_of (sector_value (first + done) d))) bytes
+    put_over (SECTOR_BYTES * done) (bytes_of (words_of (sector_value (first + done) d))) bytes
 bytes_read Failed first done d bytes = bytes
 
 -- the bytes of a job after a poll; those of a write stay

@@ -1,6 +1,6 @@
 -- A drive with an own command.
 use Rattle.std.specs.Prelude.{◌≡◌, ℕ, Bool, true, false, ◌||◌, ◌==◌, ◌+◌, ◌<◌, [], List}
-use Rattle.ata_taskfile.specs.declared.registers.TheConstants.{DEV}
+use Rattle.ata_taskfile.specs.declared.registers.TheConstants.{DEV, NIEN, BLOCK_WORDS}
 use Rattle.ata_taskfile.specs.declared.Taken.TheVariants.{Good}
 use Rattle.ata_taskfile.specs.declared.Taken.{Taken}
 use Rattle.ata_taskfile.specs.declared.Phase.{Phase}
@@ -10,7 +10,7 @@ use Rattle.ata_taskfile.specs.Device.{Device}
 use Rattle.plain_drive.specs.Plain.{sector_value, words_of}
 use Rattle.own_pio.specs.declared.job.OwnJob.{OwnJob}
 use Rattle.own_pio.specs.declared.job.OwnJob.TheVariants.{Read, Write, Flush}
-use Rattle.own_pio.specs.Job.{moves_blocks, count_of, order_of, request_of, command_of}
+use Rattle.own_pio.specs.Job.{moves_blocks, count_of, job_order, job_request, command_of}
 use Rattle.own_pio.specs.Named.{nien_of}
 
 -- a job of which so many blocks went has come to its end where the drive is idle: a read ends with its
@@ -31,16 +31,16 @@ pub record IsOffered (job : OwnJob) (done : ℕ) (order : Taken) (position left 
     (d : Device) : Type 0 where
   pub moves : moves_blocks job ≡ true
   pub below : done < count_of job
-  pub order_is : order ≡ order_of job d.sectors
-  pub good : order ≡ Good (request_of job)
+  pub order_is : order ≡ job_order job d.sectors
+  pub good : order ≡ Good (job_request job)
   pub position_is : position ≡ done
-  pub whole : left ≡ 256
+  pub whole : left ≡ BLOCK_WORDS
   pub block : d.block ≡ words_for job done d
 
 -- the drive is at work on a job
 pub record IsAtWork (job : OwnJob) (done : ℕ) (order : Taken) (position : ℕ)
     (d : Device) : Type 0 where
-  pub order_is : order ≡ order_of job d.sectors
+  pub order_is : order ≡ job_order job d.sectors
   pub position_is : position ≡ done
 
 -- the drive stands where a job of which so many blocks went lets it, by the phase
@@ -53,7 +53,7 @@ StandsIn (Ready order position left) job done d = IsOffered job done order posit
 -- the drive has a job's command in hand, of which so many blocks went, or has ended it unseen; nIEN is
 -- 1, so the guest sees nothing of it
 pub record IsRunning (job : OwnJob) (done : ℕ) (d : Device) : Type 0 where
-  pub masked : d.file.control ≡ 2
+  pub masked : d.file.control ≡ NIEN
   pub selected : has_bit DEV d.file.device ≡ false
   pub stands : StandsIn d.file.phase job done d
 
@@ -61,7 +61,7 @@ pub record IsRunning (job : OwnJob) (done : ℕ) (d : Device) : Type 0 where
 pub record IsBegun (masked : Bool) (job : OwnJob) (old new : Device) : Type 0 where
   pub control : new.file.control ≡ nien_of masked
   pub selected : has_bit DEV new.file.device ≡ false
-  pub phase : new.file.phase ≡ Busy (order_of job old.sectors) 0
+  pub phase : new.file.phase ≡ Busy (job_order job old.sectors) 0
   pub command : new.file.command ≡ command_of job
   pub unpended : new.file.pending ≡ false
   pub bus : new.bus ≡ old.bus

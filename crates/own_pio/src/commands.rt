@@ -1,6 +1,7 @@
 //! The registers of an own command.
 
 ghost use Rattle.std.specs.Prelude.{◌≡◌, true, false};
+ghost use Rattle.ata_taskfile.specs.declared.registers.TheConstants.{DEV};
 ghost use Rattle.ata_taskfile.specs.TaskFile.{has_bit};
 ghost use Rattle.port_lease.specs.Free.{is_free};
 ghost use Rattle.port_lease.specs.Writing.{IsAtRest};
@@ -9,12 +10,12 @@ ghost use Rattle.own_pio.specs.Named.{named, nien_of};
 ghost use Rattle.own_pio.specs.Running.{IsBegun};
 
 use crate::OwnJob;
-use ata_taskfile::registers::{LBA, NIEN};
+use ata_taskfile::registers::{FLUSH_CACHE, LBA, NIEN, READ_SECTORS, WRITE_SECTORS};
 use ata_taskfile::{Ports, Reg};
 use port_lease::{put_command, put_control, put_register};
 
-// The job's command over its registers, on a free drive. An interrupt of it must not reach the guest's line.
-pub(crate) fn write_command<P: Ports>(ports: &mut P, job: OwnJob)
+// Gives a job's command, over its registers, to a free drive. An interrupt of it must not reach the guest's line.
+pub(crate) fn command_job<P: Ports>(ports: &mut P, job: OwnJob)
     requires free { is_free (P.device ports.old).file ≡ true }
     requires fit { IsFit job }
     ensures begun { IsBegun true job (P.device ports.old) (P.device ports.new) }
@@ -22,8 +23,8 @@ pub(crate) fn write_command<P: Ports>(ports: &mut P, job: OwnJob)
 {
     match job {
         OwnJob::Read(first, count) => command_read(ports, true, first, count),
-        OwnJob::Write(first, count) => write(ports, first, count),
-        OwnJob::Flush => flush(ports),
+        OwnJob::Write(first, count) => command_write(ports, first, count),
+        OwnJob::Flush => command_flush(ports),
     }
 }
 
@@ -38,12 +39,12 @@ pub fn command_read<P: Ports>(ports: &mut P, masked: bool, first: u64, count: u3
 {
     put_nien(ports, masked);
     name_sectors(ports, first, count);
-    put_command(ports, 0x20);
+    put_command(ports, READ_SECTORS);
 }
 
-// WRITE SECTOR(S).
+// Gives WRITE SECTOR(S) to a free drive.
 #[tactic(auto, using(crate::proofs::Named::write_named))]
-fn write<P: Ports>(ports: &mut P, first: u64, count: u32)
+fn command_write<P: Ports>(ports: &mut P, first: u64, count: u32)
     requires free { is_free (P.device ports.old).file ≡ true }
     requires named { IsNamed first count }
     ensures begun { IsBegun true (OwnJob.Write first count)
@@ -52,20 +53,21 @@ fn write<P: Ports>(ports: &mut P, first: u64, count: u32)
 {
     put_nien(ports, true);
     name_sectors(ports, first, count);
-    put_command(ports, 0x30);
+    put_command(ports, WRITE_SECTORS);
 }
 
-// FLUSH CACHE.
-fn flush<P: Ports>(ports: &mut P)
+// Gives FLUSH CACHE to a free drive.
+fn command_flush<P: Ports>(ports: &mut P)
     requires free { is_free (P.device ports.old).file ≡ true }
     ensures begun { IsBegun true OwnJob.Flush
         (P.device ports.old) (P.device ports.new) }
     ensures rest { P.rest ports.new ≡ P.rest ports.old }
 {
     put_nien(ports, true);
-    put_command(ports, 0xe7);
+    put_command(ports, FLUSH_CACHE);
 }
 
+// Writes Device Control, by nIEN alone.
 fn put_nien<P: Ports>(ports: &mut P, masked: bool)
     requires free { is_free (P.device ports.old).file ≡ true }
     ensures put { let d = P.device ports.old in
@@ -75,13 +77,13 @@ fn put_nien<P: Ports>(ports: &mut P, masked: bool)
     put_control(ports, if masked { NIEN } else { 0 });
 }
 
-// The registers that name the sectors.
+// Writes the registers that name the sectors of a command.
 fn name_sectors<P: Ports>(ports: &mut P, first: u64, count: u32)
     requires rests { IsAtRest (P.device ports.old).file }
     requires named { IsNamed first count }
     ensures named { let d = P.device ports.old in
         P.device ports.new ≡ record d { file = named first count d.file } }
-    ensures selected { has_bit 16 (P.device ports.new).file.device ≡ false }
+    ensures selected { has_bit DEV (P.device ports.new).file.device ≡ false }
     ensures rest { P.rest ports.new ≡ P.rest ports.old }
 {
     put_register(ports, Reg::Count, count as u8);

@@ -3,6 +3,9 @@
 ghost use Rattle.std.specs.Prelude.{◌≡◌};
 ghost use Rattle.own_pio.specs.Job.{IsFit, polls_of};
 
+/// The most sectors that one job moves: a block of the image of the largest size (own).
+pub const MOST_MOVED: u32 = 64;
+
 /// A job of the monitor's own: one command to the drive, which the guest doesn't see (own).
 #[derive(Clone, Copy, Debug, PartialEq, Eq)]
 pub enum OwnJob {

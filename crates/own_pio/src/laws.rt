@@ -17,7 +17,7 @@ pub fn steps_keep_running()
         → IsRunning job done p.device → IsRunning job done (step_made step p).device }
 {}
 
-/// And every step leaves the sectors what the job makes of them, as far as it has come: a write's are its bytes one
+/// Every step leaves the sectors what the job makes of them, as far as it has come: a write's are its bytes one
 /// after the other, a flush's are durable, and any other sector is as it was at the begin.
 pub fn steps_keep_what_was_done()
     ensures { (job : JobOf) (done : ℕ) (bytes start : List ℕ) (origin : List Cell)

@@ -13,7 +13,7 @@ mod own;
 mod polling;
 
 pub use commands::command_read;
-pub use job::OwnJob;
+pub use job::{MOST_MOVED, OwnJob};
 pub use laws::{steps_keep_running, steps_keep_what_was_done};
 pub use own::Own;
 pub use polling::acknowledge;
@@ -25,6 +25,8 @@ pub enum Poll {
     Waiting,
     /// A block of 256 words went, and the command goes on.
     Moved,
+    /// The command has ended well.
     Done,
+    /// The command has ended, and didn't go well.
     Failed,
 }

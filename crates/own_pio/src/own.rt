@@ -3,13 +3,16 @@
 ghost use Rattle.std.specs.Prelude.{◌≤◌};
 ghost use Rattle.own_pio.specs.Job.{IsFit, polls_of};
 
-use crate::commands::write_command;
-use crate::polling::{go, left_after, mark};
+use crate::commands::command_job;
+use crate::polling::{left_after, mark_if_ended, poll_drive};
 use crate::{OwnJob, Poll};
 use ata_taskfile::Ports;
+use ata_taskfile::registers::SECTOR_BYTES;
 use port_lease::MonitorSide;
 
-/// An own command that was begun, with the polls that are left.
+/// A command of the monitor's own that was begun, a read, a write or a flush by PIO, with the polls that are left.
+///
+/// A dummy read is marked on the side as an own command too, but is no `Own`.
 #[derive(Drop)]
 pub struct Own {
     pub(crate) job: OwnJob,
@@ -21,12 +24,12 @@ pub struct Own {
 impl Own {
     ghost use Rattle.std.specs.Prelude.{◌≡◌, ◌<◌, ◌*◌, ◌&&◌, ℕ, List, true, false, length};
     ghost use Rattle.ata_taskfile.specs.declared.Phase.TheVariants.{Busy};
-    ghost use Rattle.ata_taskfile.specs.Device.{Cell, line_read};
+    ghost use Rattle.ata_taskfile.specs.Device.{Cell};
     ghost use Rattle.port_lease.specs.Free.{is_free};
     ghost use Rattle.port_lease.specs.Sides.{view_held, has_own};
-    ghost use Rattle.own_pio.specs.Job.{count_of, command_of, order_of};
+    ghost use Rattle.own_pio.specs.Job.{count_of, command_of, job_order};
     ghost use Rattle.own_pio.specs.Own.{job_of, polls_left, done_of};
-    ghost use Rattle.own_pio.specs.Running.{IsRunning};
+    ghost use Rattle.own_pio.specs.Running.{IsRunning, IsUnseen};
     ghost use Rattle.own_pio.specs.Poll.{answer_of, goes_on, left_after, bytes_after};
     ghost use Rattle.own_pio.specs.Kept.{IsDoneSoFar, Leaves};
 
@@ -40,22 +43,19 @@ impl Own {
         ensures left { polls_left result ≡ polls_of job }
         ensures runs { IsRunning job 0 (P.device ports.new) }
         ensures taken { (P.device ports.new).file.phase
-            ≡ Busy (order_of job (P.device ports.old).sectors) 0 }
+            ≡ Busy (job_order job (P.device ports.old).sectors) 0 }
         ensures byte { (P.device ports.new).file.command ≡ command_of job }
         ensures kept { (bytes : List ℕ) →
             IsDoneSoFar job 0 bytes bytes (P.device ports.old).cells (P.device ports.new) }
 
         // The guest sees nothing of it, and no sector changes.
+        ensures unseen { IsUnseen (P.device ports.old) (P.device ports.new) }
         ensures own { has_own side.new ≡ true }
         ensures view { view_held side.new ≡ view_held side.old }
-        ensures line { line_read (P.device ports.new) ≡ line_read (P.device ports.old) }
-        ensures bus { (P.device ports.new).bus ≡ (P.device ports.old).bus }
-        ensures cells { (P.device ports.new).cells ≡ (P.device ports.old).cells }
-        ensures sectors { (P.device ports.new).sectors ≡ (P.device ports.old).sectors }
         ensures rest { P.rest ports.new ≡ P.rest ports.old }
     {
         side.own_begins();
-        write_command(ports, job);
+        command_job(ports, job);
         Own {
             job,
             left: job.polls(),
@@ -72,7 +72,7 @@ impl Own {
     ) -> Poll
         requires stands { 0 < polls_left self.old }
         requires runs { IsRunning (job_of self.old) (done_of self.old) (P.device ports.old) }
-        requires bytes { length bytes.old ≡ 512 * count_of (job_of self.old) }
+        requires bytes { length bytes.old ≡ SECTOR_BYTES * count_of (job_of self.old) }
 
         ensures answer { result
             ≡ answer_of (job_of self.old) (polls_left self.old) (P.device ports.old).file }
@@ -94,16 +94,13 @@ impl Own {
         ensures own { has_own side.new ≡ (goes_on result && has_own side.old) }
 
         // The guest sees nothing of it, and no sector changes but by the drive's own steps.
+        ensures unseen { IsUnseen (P.device ports.old) (P.device ports.new) }
         ensures view { view_held side.new ≡ view_held side.old }
-        ensures line { line_read (P.device ports.new) ≡ line_read (P.device ports.old) }
-        ensures bus { (P.device ports.new).bus ≡ (P.device ports.old).bus }
-        ensures cells { (P.device ports.new).cells ≡ (P.device ports.old).cells }
-        ensures sectors { (P.device ports.new).sectors ≡ (P.device ports.old).sectors }
         ensures rest { P.rest ports.new ≡ P.rest ports.old }
     {
-        let poll = go(self.job, self.left, ports, bytes);
+        let poll = poll_drive(self.job, self.left, ports, bytes);
         self.left = left_after(poll, self.left);
-        mark(side, poll);
+        mark_if_ended(side, poll);
         poll
     }
 }

@@ -12,7 +12,7 @@ ghost use Rattle.own_pio.specs.Poll.{answer_of, block_answer, done_by, goes_on, 
 
 use crate::moving::{put_block, take_block};
 use crate::{OwnJob, Poll};
-use ata_taskfile::registers::{BSY, DRQ, ERR, has_bit};
+use ata_taskfile::registers::{BSY, DRQ, ERR, SECTOR_BYTES, has_bit};
 use ata_taskfile::{Ports, Reg};
 use port_lease::MonitorSide;
 
@@ -28,8 +28,8 @@ pub(crate) fn left_after(poll: Poll, left: u32) -> u32
     }
 }
 
-// Marks the end of the command on the side.
-pub(crate) fn mark(side: &mut MonitorSide, poll: Poll)
+// Marks on the side that the command has ended, where the poll found it so.
+pub(crate) fn mark_if_ended(side: &mut MonitorSide, poll: Poll)
     ensures own { has_own side.new ≡ (goes_on poll && has_own side.old) }
     ensures view { view_held side.new ≡ view_held side.old }
 {
@@ -39,13 +39,13 @@ pub(crate) fn mark(side: &mut MonitorSide, poll: Poll)
     }
 }
 
-// What the drive and the bytes are after a poll.
-pub(crate) fn go<P: Ports>(job: OwnJob, left: u32, ports: &mut P, bytes: &mut [u8]) -> Poll
+// Polls the drive, and moves a block where one waits in Data or is wanted there.
+pub(crate) fn poll_drive<P: Ports>(job: OwnJob, left: u32, ports: &mut P, bytes: &mut [u8]) -> Poll
     requires fit { IsFit job }
     requires stands { 0 < left }
     requires within { left ≤ polls_of job }
     requires runs { IsRunning job (done_by job left) (P.device ports.old) }
-    requires bytes { length bytes.old ≡ 512 * count_of job }
+    requires bytes { length bytes.old ≡ SECTOR_BYTES * count_of job }
     ensures answer { result ≡ answer_of job left (P.device ports.old).file }
     ensures bytes { bytes.new
         ≡ bytes_after job result (done_by job left) (P.device ports.old) bytes.old }
@@ -82,15 +82,15 @@ pub fn acknowledge<P: Ports>(ports: &mut P) -> u8
     ports.read8(Reg::Status)
 }
 
-// The block that waits in Data, or is wanted there.
+// Moves the block that waits in Data, or is wanted there.
 fn move_block<P: Ports>(job: OwnJob, left: u32, ports: &mut P, bytes: &mut [u8]) -> Poll
     requires fit { IsFit job }
     requires stands { 0 < left }
     requires within { left ≤ polls_of job }
     requires runs { IsRunning job (done_by job left) (P.device ports.old) }
     requires unpended { (P.device ports.old).file.pending ≡ false }
-    requires offers { has_bit 8 (status (P.device ports.old).file) ≡ true }
-    requires bytes { length bytes.old ≡ 512 * count_of job }
+    requires offers { has_bit DRQ (status (P.device ports.old).file) ≡ true }
+    requires bytes { length bytes.old ≡ SECTOR_BYTES * count_of job }
     ensures answer { result ≡ block_answer job left }
     ensures bytes { bytes.new
         ≡ bytes_after job result (done_by job left) (P.device ports.old) bytes.old }
@@ -105,11 +105,11 @@ fn move_block<P: Ports>(job: OwnJob, left: u32, ports: &mut P, bytes: &mut [u8])
 {
     match job {
         OwnJob::Read(_, count) => {
-            take_block(ports, bytes, (count - left) as usize * 512);
+            take_block(ports, bytes, (count - left) as usize * SECTOR_BYTES);
             if left == 1 { Poll::Done } else { Poll::Moved }
         }
         OwnJob::Write(_, count) => {
-            put_block(ports, bytes, (count + 1 - left) as usize * 512);
+            put_block(ports, bytes, (count + 1 - left) as usize * SECTOR_BYTES);
             Poll::Moved
         }
         OwnJob::Flush => Poll::Moved,

@@ -9,6 +9,6 @@ abbrev pub shows_rest : TaskFile → Bool
 shows_rest f =
     not (has_bit BSY (status f)) && not (has_bit DRQ (status f)) && not (has_bit DEV f.device)
 
--- and no interrupt of it pends, so that the monitor may have it (own)
+-- a drive that the monitor may have: it shows neither BSY nor DRQ nor DEV, and no interrupt of it pends (own)
 abbrev pub is_free : TaskFile → Bool
 is_free f = shows_rest f && not f.pending

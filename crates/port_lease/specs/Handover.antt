@@ -3,6 +3,7 @@ use Rattle.std.specs.Prelude.{◌≡◌, ℕ, Bool, not, ◌&&◌, ◌==◌, if�
 use Rattle.ata_taskfile.specs.declared.Phase.TheVariants.{Busy}
 use Rattle.ata_taskfile.specs.declared.task_file.TaskFile.{TaskFile}
 use Rattle.ata_taskfile.specs.declared.bus_master.Bus.{Bus}
+use Rattle.ata_taskfile.specs.declared.registers.TheConstants.{STATUS_IDLE}
 use Rattle.ata_taskfile.specs.TaskFile.{status, shown}
 use Rattle.ata_taskfile.specs.Bus.{walk_stopped}
 use Rattle.ata_taskfile.specs.Order.{inputs, order_of, taken}
@@ -58,9 +59,9 @@ abbrev pub after_give : View → ℕ → Device → Device
 after_give v command d =
     record d { file = record v.file { command = command }; bus = bus_given v d.bus }
 
--- Status 50h and Error 00h are shown: at rest, and the last command went well (own)
+-- Error is 00h, and Status that of a drive at rest whose last command went well (own)
 abbrev pub shows_well : TaskFile → Bool
-shows_well f = (status f == 80) && (f.error == 0)
+shows_well f = (status f == STATUS_IDLE) && (f.error == 0)
 
 -- a guest would see nothing of the monitor's going: all is well in the view, nothing pends, no walk was
 -- begun, and no own command stands (own)

@@ -7,7 +7,7 @@ use Rattle.ata_taskfile.specs.declared.Access.TheVariants as access
 use Rattle.ata_taskfile.specs.declared.Phase.{Phase}
 use Rattle.ata_taskfile.specs.declared.task_file.TaskFile.{TaskFile}
 use Rattle.ata_taskfile.specs.declared.bus_master.Bus.{Bus}
-use Rattle.ata_taskfile.specs.declared.registers.TheConstants.{SRST}
+use Rattle.ata_taskfile.specs.declared.registers.TheConstants.{SRST, CONTROL_BITS}
 use Rattle.ata_taskfile.specs.TaskFile.{has_bit, is_at_work, hob_cleared}
 use Rattle.ata_taskfile.specs.Bus.{bus_written, pointer_written}
 use Rattle.ata_taskfile.specs.Access.{accessed}
@@ -54,7 +54,7 @@ is_of_walk reg.Device = false
 is_of_walk reg.Status = false
 is_of_walk reg.Alternate = false
 
--- an access to that register or to the table pointer
+-- an access to the command register of the bus master, or to the table pointer
 abbrev pub is_walk_access : Access → Bool
 is_walk_access (access.Read8 r) = is_of_walk r
 is_walk_access (access.Write8 r v) = is_of_walk r
@@ -69,21 +69,23 @@ is_walk_access access.Line = false
 abbrev pub reached : View → Access → Device → Device
 reached v a d = if is_walk_access a && not (uses_bus v) then d else accessed a d
 
--- a write to the Command register
-abbrev pub is_of_command : Reg → Bool
-is_of_command reg.Status = true
-is_of_command reg.Error = false
-is_of_command reg.Count = false
-is_of_command reg.Low = false
-is_of_command reg.Mid = false
-is_of_command reg.High = false
-is_of_command reg.Device = false
-is_of_command reg.Alternate = false
-is_of_command reg.BusCommand = false
-is_of_command reg.BusStatus = false
+-- the register that is Status where it is read, and Command where it is written (ATA/ATAPI-6, Status and
+-- Command registers)
+abbrev pub is_status_or_command : Reg → Bool
+is_status_or_command reg.Status = true
+is_status_or_command reg.Error = false
+is_status_or_command reg.Count = false
+is_status_or_command reg.Low = false
+is_status_or_command reg.Mid = false
+is_status_or_command reg.High = false
+is_status_or_command reg.Device = false
+is_status_or_command reg.Alternate = false
+is_status_or_command reg.BusCommand = false
+is_status_or_command reg.BusStatus = false
 
+-- an access that writes Command
 abbrev pub is_command : Access → Bool
-is_command (access.Write8 r v) = is_of_command r
+is_command (access.Write8 r v) = is_status_or_command r
 is_command (access.Read8 r) = false
 is_command access.ReadWord = false
 is_command (access.WriteWord w) = false
@@ -94,7 +96,7 @@ is_command access.Line = false
 -- what is kept after a write of Device Control: a reset leaves 00h in Features
 abbrev pub control_kept : ℕ → TaskFile → TaskFile
 control_kept v f =
-    record f { control = bit_and v 134; features = if has_bit SRST v then 0 else f.features }
+    record f { control = bit_and v CONTROL_BITS; features = if has_bit SRST v then 0 else f.features }
 
 -- what is kept of the registers after a write to one, by the drive's phase: where the drive ignores it
 -- nothing changes
@@ -116,6 +118,6 @@ file_kept reg.BusStatus v phase f = f
 abbrev pub bus_kept : Reg → ℕ → View → Bus
 bus_kept r value v = if is_of_walk r && uses_bus v then v.bus else bus_written r value v.bus
 
--- and after a write of the pointer
+-- the bus master that the view keeps, after a write of the pointer
 abbrev pub pointer_kept : ℕ → View → Bus
 pointer_kept value v = if uses_bus v then v.bus else pointer_written value v.bus

@@ -5,7 +5,7 @@ use Rattle.ata_taskfile.specs.declared.Reg.TheVariants as reg
 use Rattle.ata_taskfile.specs.declared.Phase.TheVariants.{Idle}
 use Rattle.ata_taskfile.specs.declared.task_file.TaskFile.{TaskFile}
 use Rattle.ata_taskfile.specs.declared.bus_master.Bus.{Bus}
-use Rattle.ata_taskfile.specs.declared.registers.TheConstants.{SRST, DEV}
+use Rattle.ata_taskfile.specs.declared.registers.TheConstants.{SRST, CONTROL_BITS, DEV}
 use Rattle.ata_taskfile.specs.TaskFile.{has_bit, is_at_work, selects_absent, hob_cleared, stored}
 use Rattle.ata_taskfile.specs.Bus.{walk_stopped, walk_begun}
 use Rattle.ata_taskfile.specs.Device.{Device}
@@ -23,7 +23,8 @@ is_plain_register reg.Alternate = false
 is_plain_register reg.BusCommand = false
 is_plain_register reg.BusStatus = false
 
--- the drive after a write of one of them; in Reset and Busy it is ignored (ATA/ATAPI-6, BSY bit)
+-- the drive after a write of a register of the command block other than Command; in Reset and Busy it
+-- is ignored (ATA/ATAPI-6, BSY bit)
 abbrev pub plainly_written : Reg → ℕ → Device → Device
 plainly_written r v d = if is_at_work d.file.phase then d else record d { file = stored r v d.file }
 
@@ -56,13 +57,13 @@ with_registers g f = record f {
 abbrev pub bus_put : Bus → Bus → Bus
 bus_put g b = record (walk_stopped b) { inward = g.inward; pointer = g.pointer }
 
--- and then started
+-- a bus master stopped, with the direction and the pointer of another, and then started
 abbrev pub bus_started : Bus → Bus → Bus
 bus_started g b = walk_begun (bus_put g b)
 
 -- registers with a command of which nothing is done, as a lawful view has them
-pub record IsFresh (f : TaskFile) : Type 0 where
-  pub kept : bit_and f.control 134 ≡ f.control
+pub record IsJustTaken (f : TaskFile) : Type 0 where
+  pub kept : bit_and f.control CONTROL_BITS ≡ f.control
   pub unheld : has_bit SRST f.control ≡ false
   pub no_error : f.error ≡ 0
   pub not_failed : f.failed ≡ false

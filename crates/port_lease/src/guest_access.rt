@@ -5,7 +5,7 @@ ghost use Rattle.ata_taskfile.specs.Access.{answer_to, accessed};
 ghost use Rattle.ata_taskfile.specs.TaskFile.{is_of_bus, is_at_work, selects_absent};
 ghost use Rattle.ata_taskfile.specs.Device.{byte_read, after_read8, after_write8, pointer_read};
 ghost use Rattle.port_lease.specs.Quiet.{IsQuiet};
-ghost use Rattle.port_lease.specs.View.{IsKept, IsGiven, is_of_command, is_command, reached, file_kept, bus_kept, pointer_kept, control_kept, with_kept};
+ghost use Rattle.port_lease.specs.View.{IsKept, IsGiven, is_status_or_command, is_command, reached, file_kept, bus_kept, pointer_kept, control_kept, with_kept};
 ghost use Rattle.port_lease.specs.Seen.{on_guest_side};
 ghost use Rattle.port_lease.specs.Sides.{view_kept};
 ghost use Rattle.port_lease.specs.Writing.{is_plain_register, asked};
@@ -13,7 +13,9 @@ ghost use Rattle.port_lease.specs.Writing.{is_plain_register, asked};
 use crate::reading::peek;
 use crate::writing::put_register;
 use crate::{GuestSide, View};
-use ata_taskfile::registers::{ACTIVE, BSY, BUS_ERROR, DEV, HOB, INTERRUPT, NIEN, SRST, has_bit};
+use ata_taskfile::registers::{
+    ACTIVE, BSY, BUS_ERROR, CONTROL_BITS, DEV, HOB, INTERRUPT, SRST, has_bit,
+};
 use ata_taskfile::{Access, Answer, Bus, Ports, Reg, TaskFile, perform};
 
 impl GuestSide {
@@ -56,7 +58,7 @@ impl GuestSide {
     }
 
     fn write8<P: Ports>(&mut self, ports: &mut P, reg: Reg, v: u8)
-        requires { is_of_command reg ≡ false }
+        requires { is_status_or_command reg ≡ false }
         ensures drive { P.device ports.new
             ≡ reached (view_kept self.old) (Access.Write8 reg v) (P.device ports.old) }
         ensures file { (view_kept self.new).file
@@ -131,7 +133,7 @@ fn read_pointer<P: Ports>(view: &View, ports: &P) -> u32
     }
 }
 
-// Error and interrupt bit are cleared in both.
+// A write to a register of the bus master. Error and interrupt bit are cleared in the drive's and in the view's.
 fn write_bus<P: Ports>(view: &mut View, ports: &mut P, reg: Reg, v: u8)
     requires { is_of_bus reg ≡ true }
     ensures drive { P.device ports.new
@@ -153,7 +155,7 @@ fn write_bus<P: Ports>(view: &mut View, ports: &mut P, reg: Reg, v: u8)
 
 fn write_file<P: Ports>(kept: &mut TaskFile, ports: &mut P, reg: Reg, v: u8)
     requires bus { is_of_bus reg ≡ false }
-    requires command { is_of_command reg ≡ false }
+    requires command { is_status_or_command reg ≡ false }
     ensures drive { P.device ports.new ≡ after_write8 reg v (P.device ports.old) }
     ensures kept { kept.new ≡ file_kept reg v (P.device ports.old).file.phase kept.old }
     ensures rest { P.rest ports.new ≡ P.rest ports.old }
@@ -170,7 +172,7 @@ fn write_file<P: Ports>(kept: &mut TaskFile, ports: &mut P, reg: Reg, v: u8)
 fn keep_control(kept: &mut TaskFile, v: u8)
     ensures kept { kept.new ≡ control_kept v kept.old }
 {
-    kept.control = v & (HOB | SRST | NIEN);
+    kept.control = v & CONTROL_BITS;
     if has_bit(SRST, v) {
         kept.features = 0;
     }

@@ -4,16 +4,16 @@ ghost use Rattle.std.specs.Prelude.{◌≡◌, false};
 ghost use Rattle.ata_taskfile.specs.Device.{byte_read};
 ghost use Rattle.ata_taskfile.specs.Lawful.{moved_by};
 ghost use Rattle.port_lease.specs.Free.{shows_rest, is_free};
-ghost use Rattle.port_lease.specs.View.{is_of_command};
+ghost use Rattle.port_lease.specs.View.{is_status_or_command};
 
 use ata_taskfile::registers::{
     ACTIVE, BSY, BUS_ERROR, DEV, DRQ, INTERRUPT, INWARD, START, has_bit,
 };
 use ata_taskfile::{Bus, Ports, Reg};
 
-// A register other than Status.
+// Reads a register other than Status.
 pub(crate) fn peek<P: Ports>(ports: &mut P, reg: Reg) -> u8
-    requires { is_of_command reg ≡ false }
+    requires { is_status_or_command reg ≡ false }
     ensures byte { result ≡ byte_read reg (P.device ports.old) }
     ensures unmoved { P.device ports.new ≡ P.device ports.old }
     ensures rest { P.rest ports.new ≡ P.rest ports.old }
@@ -21,7 +21,7 @@ pub(crate) fn peek<P: Ports>(ports: &mut P, reg: Reg) -> u8
     ports.read8(reg)
 }
 
-// The monitor may have the drive.
+// Whether the monitor may have the drive.
 pub(crate) fn is_free<P: Ports>(ports: &mut P) -> bool
     ensures free { result ≡ is_free (P.device ports.old).file }
     ensures unmoved { P.device ports.new ≡ P.device ports.old }
@@ -31,6 +31,7 @@ pub(crate) fn is_free<P: Ports>(ports: &mut P) -> bool
     rests && !ports.pending()
 }
 
+// Whether the drive shows neither BSY nor DRQ nor DEV.
 fn shows_rest<P: Ports>(ports: &mut P) -> bool
     ensures rests { result ≡ shows_rest (P.device ports.old).file }
     ensures unmoved { P.device ports.new ≡ P.device ports.old }

@@ -10,7 +10,7 @@ ghost use Rattle.port_lease.specs.Handover.{after_remove, is_clean, shows_well};
 use crate::reading::peek;
 use crate::writing::{put_bus, put_control, put_registers};
 use crate::{Gone, MonitorSide, View};
-use ata_taskfile::registers::{DEV, DRDY, DSC, has_bit};
+use ata_taskfile::registers::{DEV, STATUS_IDLE, has_bit};
 use ata_taskfile::{Phase, Ports, Reg, TaskFile};
 
 /// The guest would see the monitor go, or the drive isn't at rest and well.
@@ -72,7 +72,7 @@ fn is_clean(view: &View, own: bool) -> bool
     is_well(&view.file) && !view.file.pending && !view.bus.start && !view.bus.error && !own
 }
 
-// The view's Status is 50h and its Error 00h.
+// Whether registers show Status 50h and Error 00h.
 fn is_well(file: &TaskFile) -> bool
     ensures well { result ≡ shows_well file.now }
 {
@@ -82,7 +82,7 @@ fn is_well(file: &TaskFile) -> bool
     }
 }
 
-// The drive's are.
+// Whether the drive's Status is 50h and its Error 00h.
 fn shows_well<P: Ports>(ports: &mut P) -> bool
     ensures well { result ≡ shows_well (P.device ports.old).file }
     ensures unmoved { P.device ports.new ≡ P.device ports.old }
@@ -90,5 +90,5 @@ fn shows_well<P: Ports>(ports: &mut P) -> bool
 {
     let status = peek(ports, Reg::Alternate);
     let error = peek(ports, Reg::Error);
-    status == DRDY | DSC && error == 0
+    status == STATUS_IDLE && error == 0
 }

@@ -14,7 +14,8 @@ use crate::{GuestSide, MonitorSide, View};
 use ata_taskfile::registers::{ERR, HOB, has_bit};
 use ata_taskfile::{Bus, Phase, Ports, Reg, TaskFile};
 
-/// The drive can't be taken: it shows BSY, DRQ or DEV, or an interrupt pends.
+/// The drive can't be taken: it shows BSY, DRQ or DEV, or an interrupt pends. So it is more than the phase Busy: also
+/// Reset, Ready, and a drive at rest that the guest has still to acknowledge or has deselected.
 #[derive(Clone, Copy, Debug, PartialEq, Eq)]
 pub struct Busy;
 

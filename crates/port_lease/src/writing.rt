@@ -2,6 +2,7 @@
 
 ghost use Rattle.std.specs.Prelude.{◌≡◌, ◌%◌, true, false, length, slice_index, bit_and, []};
 ghost use Rattle.ata_taskfile.specs.declared.Phase.TheVariants.{Idle, Busy as AtWork};
+ghost use Rattle.ata_taskfile.specs.declared.registers.TheConstants.{SRST, CONTROL_BITS, DEV};
 ghost use Rattle.ata_taskfile.specs.TaskFile.{has_bit, stored};
 ghost use Rattle.ata_taskfile.specs.Order.{inputs, order_of, taken};
 ghost use Rattle.ata_taskfile.specs.Bus.{bit_shown};
@@ -26,9 +27,9 @@ pub(crate) fn stop_walk<P: Ports>(ports: &mut P)
 /// (ATA/ATAPI-6, Device Control register). SRST at 1 would begin a reset.
 pub fn put_control<P: Ports>(ports: &mut P, v: u8)
     requires unpended { (P.device ports.old).file.pending ≡ false }
-    requires no_reset { has_bit 4 v ≡ false }
+    requires no_reset { has_bit SRST v ≡ false }
     ensures put { let d = P.device ports.old in
-        P.device ports.new ≡ record d { file = record d.file { control = bit_and v 134 } } }
+        P.device ports.new ≡ record d { file = record d.file { control = bit_and v CONTROL_BITS } } }
     ensures rest { P.rest ports.new ≡ P.rest ports.old }
 {
     ports.write8(Reg::Alternate, v);
@@ -46,7 +47,7 @@ pub fn put_register<P: Ports>(ports: &mut P, reg: Reg, v: u8)
     ports.write8(reg, v);
 }
 
-// Both bytes of a register. The previous one goes first, since the current one makes it the previous.
+// Writes both bytes of a register. The previous one goes first, since the current one makes it the previous.
 fn put_both<P: Ports>(ports: &mut P, reg: Reg, bytes: [u8; 2])
     requires plain { is_plain_register reg ≡ true }
     requires rests { IsAtRest (P.device ports.old).file }
@@ -60,7 +61,7 @@ fn put_both<P: Ports>(ports: &mut P, reg: Reg, bytes: [u8; 2])
     put_register(ports, reg, bytes[0]);
 }
 
-// All that a command reads, into a drive at rest.
+// Writes all registers that a command reads, of a drive at rest.
 pub(crate) fn put_registers<P: Ports>(ports: &mut P, file: &TaskFile)
     requires rests { IsAtRest (P.device ports.old).file }
     ensures put { let d = P.device ports.old in
@@ -79,7 +80,7 @@ pub(crate) fn put_registers<P: Ports>(ports: &mut P, file: &TaskFile)
 /// its registers, or on its refusal; Error is 00h, and no other register changes (ATA/ATAPI-6, Command register).
 pub fn put_command<P: Ports>(ports: &mut P, command: u8)
     requires rests { IsAtRest (P.device ports.old).file }
-    requires selected { has_bit 16 (P.device ports.old).file.device ≡ false }
+    requires selected { has_bit DEV (P.device ports.old).file.device ≡ false }
     ensures taken { let d = P.device ports.old in P.device ports.new ≡ record d {
       file = record d.file {
         command = command;
@@ -104,7 +105,7 @@ pub(crate) fn put_bus<P: Ports>(ports: &mut P, bus: &Bus)
     ports.write_pointer(bus.pointer);
 }
 
-// And a walk, which begins at the table's top.
+// The direction and the pointer of a bus master, and a walk, which begins at the table's top.
 pub(crate) fn start_bus<P: Ports>(ports: &mut P, bus: &Bus)
     requires { bus.now.pointer % 4 ≡ 0 }
     ensures put { let d = P.device ports.old in
@@ -115,7 +116,7 @@ pub(crate) fn start_bus<P: Ports>(ports: &mut P, bus: &Bus)
     ports.write8(Reg::BusCommand, direction(bus) | START);
 }
 
-// The command register without start.
+// The byte of the bus master's command register without start.
 fn direction(bus: &Bus) -> u8
     ensures { result ≡ bit_shown bus.now.inward INWARD }
 {
