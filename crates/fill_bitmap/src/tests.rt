@@ -1,45 +1,76 @@
 //! Sizes, refusals and bitmaps, by hand from the rules.
 
-ghost use Rattle.std.specs.Prelude.{◌≡◌, ◌<◌, IfOk};
+ghost use Rattle.std.specs.Prelude.{◌≡◌, ◌↔◌, IfOk, IfSome, IsTrue};
+ghost use Rattle.fill_bitmap.specs.Area.{IsBlock};
 ghost use Rattle.fill_bitmap.specs.Bitmap.{blocks_in};
 
 use crate::Unsuitable::{DiskLength, ImageLength, TooLarge, TooSmall};
-use crate::{Bitmap, area_of};
+use crate::{Area, BLOCKS_OF_SECTOR, Bitmap, SECTOR_BYTES, Unsuitable, area_of};
 use std::alloc::{AllocError, Global};
 use std::test::Fail;
+
+// Whether a block may have so many sectors.
+fn is_block(sectors: u32) -> bool
+    ensures { IsTrue result ↔ IsBlock sectors }
+{
+    sectors == 8 || sectors == 16 || sectors == 32 || sectors == 64
+}
+
+// The area of an image and a disk of so many sectors, with its blocks, its bitmap's sectors and its first reserved
+// sector; None where there is none.
+fn sizes(image: u32, disk: u32, block: u32) -> Option<(Area, [u64; 3])> {
+    if !is_block(block) {
+        return None;
+    }
+    let area = area_of(512 * u64::from(image), 512 * u64::from(disk), block).ok()?;
+    let [blocks, bitmap] = [area.blocks(), area.bitmap_sectors()];
+    Some((
+        area,
+        [u64::from(blocks), u64::from(bitmap), area.reserved()],
+    ))
+}
 
 #[test]
 fn sizes_of_areas(rt: HostRuntime) {
     // Sectors of image, disk and block; blocks, sectors of the bitmap, the first reserved sector.
     let cases = [
-        (8, 16, 8, 1, 1, 13),
-        (8, 11, 8, 1, 1, 8),
-        (131_072, 262_144, 16, 8192, 2, 262_140),
-        (32_768, 262_144, 8, 4096, 1, 262_141),
-        (65_536, 262_144, 16, 4096, 1, 262_141),
-        (131_072, 262_144, 32, 4096, 1, 262_141),
-        (131_104, 262_144, 32, 4097, 2, 262_140),
-        (64, 262_144, 64, 1, 1, 262_141),
-        (262_080, 262_144, 8, 32_760, 8, 262_134),
-        (0, 16, 8, 0, 0, 16),
-        (0, 1, 64, 0, 0, 1),
+        (8, 16, 8, [1, 1, 13]),
+        (8, 11, 8, [1, 1, 8]),
+        (131_072, 262_144, 16, [8192, 2, 262_140]),
+        (32_768, 262_144, 8, [4096, 1, 262_141]),
+        (65_536, 262_144, 16, [4096, 1, 262_141]),
+        (131_072, 262_144, 32, [4096, 1, 262_141]),
+        (131_104, 262_144, 32, [4097, 2, 262_140]),
+        (64, 262_144, 64, [1, 1, 262_141]),
+        (262_080, 262_144, 8, [32_760, 8, 262_134]),
+        (0, 16, 8, [0, 0, 16]),
+        (0, 1, 64, [0, 0, 1]),
     ];
-    for (image, disk, block, blocks, bitmap, reserved) in cases {
-        assert!(rt;
-            block == 8 || block == 16 || block == 32 || block == 64,
-            "{block}"
-        );
-        assert!(rt; image <= 262_144 && disk <= 262_144, "{image} {disk}");
-        let Ok(area) = area_of(512 * image, 512 * disk, block) else {
-            panic!(rt; "{image} {disk} {block}")
+    for (image, disk, block, numbers) in cases {
+        let area = Area {
+            sectors: u64::from(disk),
+            image: u64::from(image),
+            block,
         };
-        assert_eq!(rt; area.image, image);
-        assert_eq!(rt; area.sectors, disk);
-        assert_eq!(rt; area.block, block);
-        assert_eq!(rt; area.blocks(), blocks, "{area:?}");
-        assert_eq!(rt; area.bitmap_sectors(), bitmap, "{area:?}");
-        assert_eq!(rt; area.reserved(), reserved, "{area:?}");
+        assert_eq!(rt; sizes(image, disk, block), Some((area, numbers)));
     }
+}
+
+// How many blocks an image of so many sectors has on a disk of 2,048.
+fn blocks_of(image: u32, block: u32) -> Option<u32> {
+    if !is_block(block) {
+        return None;
+    }
+    let area = area_of(512 * u64::from(image), 512 * 2048, block).ok()?;
+    Some(area.blocks())
+}
+
+// Why an image and a disk of so many bytes are refused, if they are; None where no block has so many sectors.
+fn refusal(image: u64, disk: u64, block: u32) -> Option<Option<Unsuitable>> {
+    if !is_block(block) {
+        return None;
+    }
+    Some(area_of(image, disk, block).err())
 }
 
 #[test]
@@ -71,48 +102,83 @@ fn refusals_in_their_order(rt: HostRuntime) {
         (512 * 262_144, 512 * 262_145, 64, Some(TooSmall)),
         (u64::MAX - 32_767, u64::MAX - 511, 64, Some(TooSmall)),
     ];
-    for (image, disk, block, refusal) in cases {
-        assert!(rt;
-            block == 8 || block == 16 || block == 32 || block == 64,
-            "{block}"
-        );
+    for (image, disk, block, wanted) in cases {
         assert_eq!(rt;
-            area_of(image, disk, block).err(),
-            refusal,
+            refusal(image, disk, block),
+            Some(wanted),
             "{image} {disk} {block}"
         );
     }
 }
 
-// A bitmap in which three blocks are filled.
-fn three_filled(alloc: Global, blocks: u32, a: u32, b: u32, c: u32) -> Result<Bitmap, AllocError>
-    requires { (a < blocks) × (b < blocks) × (c < blocks) }
-    ensures { IfOk result (λ bitmap. blocks_in bitmap ≡ blocks) }
+// A bitmap of so many blocks, in which three are filled; None where one of these isn't one of the image.
+fn three_filled(alloc: Global, blocks: u32, filled: [u32; 3]) -> Result<Option<Bitmap>, AllocError>
+    ensures { IfOk result (λ o. IfSome o (λ bitmap. blocks_in bitmap ≡ blocks)) }
 {
+    let [a, b, c] = filled;
+    if a >= blocks || b >= blocks || c >= blocks {
+        return Ok(None);
+    }
     let mut bitmap = Bitmap::new(alloc, blocks)?;
     bitmap.fill(a);
     bitmap.fill(b);
     bitmap.fill(c);
-    Ok(bitmap)
+    Ok(Some(bitmap))
 }
 
-// A bitmap to which this sector 0 was added.
-fn loaded(alloc: Global, blocks: u32, sector: &[u8; 512]) -> Result<Bitmap, AllocError>
-    requires { 0 < blocks }
-    ensures { IfOk result (λ bitmap. blocks_in bitmap ≡ blocks) }
-{
+// The bitmap's sector `k` of so many blocks, three of which are filled, one of these with its bit there.
+fn written(
+    alloc: Global,
+    blocks: u32,
+    filled: [u32; 3],
+    k: u32,
+) -> Result<Option<[u8; SECTOR_BYTES]>, AllocError> {
+    let Some(mut bitmap) = three_filled(alloc, blocks, filled)? else {
+        return Ok(None);
+    };
+    let [a, _, _] = filled;
+    if a >= blocks || u64::from(a) / BLOCKS_OF_SECTOR != u64::from(k) {
+        return Ok(None);
+    }
+    bitmap.freeze();
+    let mut sector = [0xff; SECTOR_BYTES];
+    bitmap.frozen_sector(k, &mut sector);
+    Ok(Some(sector))
+}
+
+// A sector with this byte at each of two places, and 0 at the others.
+fn sector_with(places: [usize; 2], bytes: [u8; 2]) -> [u8; SECTOR_BYTES] {
+    let mut sector = [0; SECTOR_BYTES];
+    let [first, second] = places;
+    if first < SECTOR_BYTES && second < SECTOR_BYTES {
+        sector[first] = bytes[0];
+        sector[second] = bytes[1];
+    }
+    sector
+}
+
+// Whether just these blocks of so many are stored and filled in a bitmap to which this sector 0 was added.
+fn reads_back(
+    alloc: Global,
+    blocks: u32,
+    filled: [u32; 3],
+    sector: &[u8; SECTOR_BYTES],
+) -> Result<bool, AllocError> {
+    if blocks == 0 {
+        return Ok(false);
+    }
     let mut bitmap = Bitmap::new(alloc, blocks)?;
     bitmap.load(0, sector);
-    Ok(bitmap)
+    Ok(has_just(&bitmap, blocks, filled))
 }
 
-// Whether just these blocks are stored and filled.
-fn has_just(bitmap: &Bitmap, blocks: u32, a: u32, b: u32, c: u32) -> bool
+fn has_just(bitmap: &Bitmap, blocks: u32, held: [u32; 3]) -> bool
     requires { blocks_in bitmap.now ≡ blocks }
 {
+    let [a, b, c] = held;
     for i in 0..blocks {
-        let held = i == a || i == b || i == c;
-        if bitmap.is_stored(i) != held || bitmap.is_filled(i) != held {
+        let wanted = i == a || i == b || i == c;
+        if bitmap.is_stored(i) != wanted || bitmap.is_filled(i) != wanted {
             return false;
         }
     }
@@ -128,25 +194,14 @@ fn bitmap_of_each_block_size(rt: HostRuntime) -> Result<(), Fail> {
         (32, 288, [2, 3, 8], 9, [0x0c, 0x01]),
         (64, 1024, [0, 4, 15], 16, [0x11, 0x80]),
     ];
-    for (block, image, [a, b, c], blocks, bytes) in cases {
-        assert!(rt;
-            block == 8 || block == 16 || block == 32 || block == 64,
-            "{block}"
+    for (block, image, filled, blocks, bytes) in cases {
+        let sector = sector_with([0, 1], bytes);
+        let found = (
+            blocks_of(image, block),
+            written(rt.alloc(), blocks, filled, 0)?,
+            reads_back(rt.alloc(), blocks, filled, &sector)?,
         );
-        assert!(rt; a < blocks && b < blocks && c < blocks, "{block}");
-        assert!(rt; image <= 1024, "{block}");
-        let Ok(area) = area_of(512 * image, 512 * 2048, block) else {
-            panic!(rt; "{block}")
-        };
-        assert_eq!(rt; area.blocks(), blocks, "{block}");
-        let mut bitmap = three_filled(rt.alloc(), blocks, a, b, c)?;
-        bitmap.freeze();
-        let mut sector = [0xff; 512];
-        bitmap.frozen_sector(0, &mut sector);
-        assert_eq!(rt; [sector[0], sector[1]], bytes, "{block}");
-        assert!(rt; sector[2..].iter().all(|byte| *byte == 0), "{block}");
-        let read = loaded(rt.alloc(), blocks, &sector)?;
-        assert!(rt; has_just(&read, blocks, a, b, c), "{block}");
+        assert!(rt; found == (Some(blocks), Some(sector), true), "{block}");
     }
     Ok(())
 }
@@ -161,20 +216,9 @@ fn bit_of_a_block_in_each_sector(rt: HostRuntime) -> Result<(), Fail> {
         (8192, 8191, 1, 511, 0x80),
         (32_760, 32_759, 7, 510, 0x80),
     ];
-    for (blocks, filled, k, place, byte) in cases {
-        assert!(rt;
-            filled < blocks && filled / 4096 == k && place < 512,
-            "{filled}"
-        );
-        let mut bitmap = Bitmap::new(rt.alloc(), blocks)?;
-        bitmap.fill(filled);
-        bitmap.freeze();
-        let mut sector = [0; 512];
-        bitmap.frozen_sector(k, &mut sector);
-        for (i, found) in sector.iter().enumerate() {
-            let want = if i == place { byte } else { 0 };
-            assert_eq!(rt; *found, want, "{filled} {i}");
-        }
+    for (blocks, b, k, place, byte) in cases {
+        let wanted = Some(sector_with([place, place], [byte, byte]));
+        assert!(rt; written(rt.alloc(), blocks, [b, b, b], k)? == wanted, "{b}");
     }
     Ok(())
 }
@@ -183,64 +227,90 @@ fn bit_of_a_block_in_each_sector(rt: HostRuntime) -> Result<(), Fail> {
 fn bits_past_the_last_block(rt: HostRuntime) -> Result<(), Fail> {
     // Twelve blocks have all bits of byte 0 and the low four of byte 1.
     let mut bitmap = Bitmap::new(rt.alloc(), 12)?;
-    let mut sector = [0xff; 512];
+    let mut sector = [0xff; SECTOR_BYTES];
     bitmap.load(0, &sector);
-    assert!(rt; bitmap.all_stored());
-    assert!(rt; bitmap.all_filled());
+    assert_eq!(rt; (bitmap.all_stored(), bitmap.all_filled()), (true, true));
     bitmap.frozen_sector(0, &mut sector);
-    assert_eq!(rt;
-        [sector[0], sector[1], sector[2], sector[511]],
-        [0xff, 0x0f, 0, 0]
-    );
+    assert!(rt; sector == sector_with([0, 1], [0xff, 0x0f]));
     Ok(())
+}
+
+// The first empty block from a place on, where three are filled, and whether all are.
+fn first_empty(
+    alloc: Global,
+    blocks: u32,
+    filled: [u32; 3],
+    from: u32,
+) -> Result<Option<(Option<u32>, bool)>, AllocError> {
+    let Some(bitmap) = three_filled(alloc, blocks, filled)? else {
+        return Ok(None);
+    };
+    if from > blocks {
+        return Ok(None);
+    }
+    Ok(Some((bitmap.first_empty_from(from), bitmap.all_filled())))
 }
 
 #[test]
 fn first_empty_block(rt: HostRuntime) -> Result<(), Fail> {
-    // How many blocks, three filled ones, where the search begins; the block that is found.
+    // How many blocks, three filled ones, where the search begins; the block that is found, and whether all are filled.
     let cases = [
-        (6, [0, 1, 2], 0, Some(3)),
-        (6, [0, 1, 2], 4, Some(4)),
-        (6, [3, 4, 5], 3, Some(0)),
-        (6, [3, 4, 5], 6, Some(0)),
-        (6, [0, 4, 5], 4, Some(1)),
-        (3, [0, 1, 1], 3, Some(2)),
-        (3, [0, 1, 2], 0, None),
-        (3, [0, 1, 2], 3, None),
+        (6, [0, 1, 2], 0, (Some(3), false)),
+        (6, [0, 1, 2], 4, (Some(4), false)),
+        (6, [3, 4, 5], 3, (Some(0), false)),
+        (6, [3, 4, 5], 6, (Some(0), false)),
+        (6, [0, 4, 5], 4, (Some(1), false)),
+        (3, [0, 1, 1], 3, (Some(2), false)),
+        (3, [0, 1, 2], 0, (None, true)),
+        (3, [0, 1, 2], 3, (None, true)),
     ];
-    for (blocks, [a, b, c], from, found) in cases {
-        assert!(rt;
-            a < blocks && b < blocks && c < blocks && from <= blocks,
-            "{from}"
-        );
-        let bitmap = three_filled(rt.alloc(), blocks, a, b, c)?;
-        assert_eq!(rt; bitmap.first_empty_from(from), found, "{a} {b} {c} {from}");
-        assert_eq!(rt; bitmap.all_filled(), found.is_none(), "{a} {b} {c}");
+    for (blocks, filled, from, wanted) in cases {
+        let found = first_empty(rt.alloc(), blocks, filled, from)?;
+        assert_eq!(rt; found, Some(wanted), "{filled:?} {from}");
     }
     Ok(())
+}
+
+// Which of the first two blocks are stored, whether all are filled, whether all are stored, and whether these are the
+// same.
+fn state(bitmap: &Bitmap) -> [bool; 5]
+    requires { blocks_in bitmap.now ≡ 2 }
+{
+    [
+        bitmap.is_stored(0),
+        bitmap.is_stored(1),
+        bitmap.all_filled(),
+        bitmap.all_stored(),
+        bitmap.filled_is_stored(),
+    ]
 }
 
 #[test]
 fn a_block_filled_after_the_freeze(rt: HostRuntime) -> Result<(), Fail> {
     let mut bitmap = Bitmap::new(rt.alloc(), 2)?;
-    assert!(rt; bitmap.filled_is_stored());
+    let fresh = state(&bitmap);
     bitmap.fill(0);
     bitmap.freeze();
     bitmap.fill(1);
-    assert!(rt; bitmap.all_filled());
-    assert!(rt; !bitmap.is_stored(0));
+    let filled = state(&bitmap);
 
     // Only block 0 was filled when the set was frozen, so only its bit is written and stored.
-    let mut sector = [0; 512];
+    let mut sector = [0; SECTOR_BYTES];
     bitmap.frozen_sector(0, &mut sector);
-    assert_eq!(rt; sector[0], 0x01);
     bitmap.store_frozen();
-    assert!(rt; bitmap.is_stored(0));
-    assert!(rt; !bitmap.is_stored(1));
-    assert!(rt; !bitmap.filled_is_stored());
+    let stored = state(&bitmap);
     bitmap.freeze();
     bitmap.store_frozen();
-    assert!(rt; bitmap.all_stored());
-    assert!(rt; bitmap.filled_is_stored());
+    let states = [fresh, filled, stored, state(&bitmap)];
+    assert_eq!(rt; sector[0], 0x01);
+    assert_eq!(rt;
+        states,
+        [
+            [false, false, false, false, true],
+            [false, false, true, false, false],
+            [true, false, true, false, false],
+            [true, true, true, true, true],
+        ]
+    );
     Ok(())
 }
