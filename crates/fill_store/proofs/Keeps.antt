@@ -11,7 +11,8 @@ use Rattle.fill_bitmap.specs.Bits.{sector_of}
 use Rattle.fill_bitmap.specs.BlockSet.{IsWithin}
 use Rattle.fill_bitmap.specs.Disk.{header_of}
 use Rattle.fill_bitmap.proofs.Bytes.{bit_written}
-use Rattle.fill_store.specs.Cells.{value_at, HasBits, ForgetsOld, HasBitsBetween, KeepsBits}
+use Rattle.plain_drive.specs.Cells.{value_at, ForgetsOld}
+use Rattle.fill_store.specs.Cells.{HasBits, HasBitsBetween, KeepsBits}
 use Rattle.fill_store.proofs.Values.{each_map, each_written, other_written, length-appended, each_flushed, flush_forgets, each_forgets}
 
 -- the newest values stay where older ones were forgotten

@@ -21,7 +21,8 @@ use Rattle.fill_bitmap.proofs.StoredBlocks.{length-stored_blocks, stored_inside,
 use Rattle.fill_store.specs.declared.opening.OpeningStep.{OpeningStep}
 use Rattle.fill_store.specs.declared.opening.OpeningStep.TheVariants.{ReadHeader, ReadBits, WriteZeros, FlushZeros, WriteHeader, FlushHeader, Nothing}
 use Rattle.fill_store.specs.Sectors.{zero_bits}
-use Rattle.fill_store.specs.Cells.{Each, MadeBy, ForgetsOld, HasBitsBetween, KeepsBits}
+use Rattle.plain_drive.specs.Cells.{Each, ForgetsOld}
+use Rattle.fill_store.specs.Cells.{MadeBy, HasBitsBetween, KeepsBits}
 use Rattle.fill_store.specs.Opening.{OpeningState, opening_of, IsReached, job_at, bytes_at, next_in_opening, bytes_to_open, read_from, zeros_from, step_after, sets_behind, opening_after, sets_after_opening}
 use Rattle.fill_store.specs.OpeningCells.{IsEither, alike, LeavesOldOrNew, HasOldBits, HasOldHeader, HasZeros, HasOnlyZeros, CellsAt, blocks_at, MadeByOpening, Opens}
 use Rattle.fill_store.proofs.Values.{newest, each_map, each_written, length-appended, each_flushed, flush_forgets, each_forgets, at_power_on, on_test}

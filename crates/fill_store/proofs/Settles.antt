@@ -12,7 +12,8 @@ use Rattle.fill_bitmap.specs.Bitmap.{Sets, IsNested, blocks_in, frozen_now, froz
 use Rattle.fill_bitmap.specs.BlockSet.{IsWithin}
 use Rattle.fill_store.specs.declared.settle.SettleStep.{SettleStep}
 use Rattle.fill_store.specs.declared.settle.SettleStep.TheVariants.{FlushData, WriteBits, FlushBits, Nothing}
-use Rattle.fill_store.specs.Cells.{MadeBy, ForgetsOld, KeepsBits}
+use Rattle.plain_drive.specs.Cells.{ForgetsOld}
+use Rattle.fill_store.specs.Cells.{MadeBy, KeepsBits}
 use Rattle.fill_store.specs.Settle.{SettleState, settle_of, IsReached, job_at, bytes_at, next_in_settling, bytes_to_settle, bits_from, step_after, sets_behind, settle_after, sets_after_settling}
 use Rattle.fill_store.specs.SettleCells.{HasFrozen, HoldsAt, MadeBySettling, Settles, durable_behind, durable_after}
 use Rattle.fill_store.proofs.Values.{flush_forgets, on_test}

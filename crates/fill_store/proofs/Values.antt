@@ -10,7 +10,7 @@ use Rattle.plain_drive.specs.Plain.{current, values, settled, flushed, appended,
 use Rattle.plain_drive.specs.Cut.{IsOutcome}
 use Rattle.plain_drive.proofs.Cells.{contained_alone, current_is_a_value, appended-others}
 use Rattle.fill_bitmap.specs.Disk.{sector_at}
-use Rattle.fill_store.specs.Cells.{cell_at, value_at, Each, ForgetsOld}
+use Rattle.plain_drive.specs.Cells.{cell_at, value_at, Each, ForgetsOld}
 
 -- one element alone
 alone : (P : List ℕ → Type 0) (x : List ℕ) → P x → All P (x ∷ [])

@@ -1,7 +1,8 @@
 -- What the monitor's own commands make of the drive's sectors, and what a power cut may leave of these.
-use Rattle.std.specs.Prelude.{ℕ, ◌≡◌, ◌<◌, ◌+◌, ◌⊎◌, Bool, true, false, Option, Some, None, List, [], length, All, Contains, slice_index_or}
+use Rattle.std.specs.Prelude.{ℕ, ◌≡◌, ◌<◌, ◌+◌, ◌⊎◌, Bool, true, false, Option, Some, None, List, length}
 use Rattle.ata_taskfile.specs.Device.{Cell}
-use Rattle.plain_drive.specs.Plain.{current, values, settled, appended, all_flushed}
+use Rattle.plain_drive.specs.Plain.{appended, all_flushed}
+use Rattle.plain_drive.specs.Cells.{value_at, Each}
 use Rattle.own_pio.specs.declared.job.OwnJob.{OwnJob}
 use Rattle.own_pio.specs.declared.job.OwnJob.TheVariants.{Read, Write, Flush}
 use Rattle.fill_bitmap.specs.declared.area.Area.{Area}
@@ -9,18 +10,6 @@ use Rattle.fill_bitmap.specs.Area.{blocks_of, bitmap_sectors_of, reserved_of, se
 use Rattle.fill_bitmap.specs.Bits.{has_bit, sector_with_bit}
 use Rattle.fill_bitmap.specs.BlockSet.{has}
 use Rattle.fill_bitmap.specs.Disk.{header_of}
-
--- the cell of a sector
-abbrev pub cell_at : ℕ → List Cell → Cell
-cell_at s cells = slice_index_or cells s (settled [])
-
--- the value of a sector that a read gives
-abbrev pub value_at : ℕ → List Cell → List ℕ
-value_at s cells = current (cell_at s cells)
-
--- each value of a sector that a cut may leave is so
-abbrev pub Each : (List ℕ → Type 0) → ℕ → List Cell → Type 0
-Each P s cells = All P (values (cell_at s cells))
 
 -- the newest values of the bitmap's first so many sectors are these bytes
 abbrev pub HasBits : ℕ → (ℕ → List ℕ) → Area → List Cell → Type 0
@@ -47,14 +36,6 @@ Made false job bytes old new = (new ≡ old) ⊎ IsSectorDone job bytes old new
 abbrev pub MadeBy : Bool → Option OwnJob → List ℕ → List Cell → List Cell → Type 0
 MadeBy ok None bytes old new = new ≡ old
 MadeBy ok (Some job) bytes old new = Made ok job bytes old new
-
--- a store in which older values were forgotten, as they are where a written one becomes durable (own:
--- the disk model)
-pub record ForgetsOld (old new : List Cell) : Type 0 where
-  pub cells : length new ≡ length old
-  pub newest : (s : ℕ) → value_at s new ≡ value_at s old
-  pub values : (s : ℕ) (value : List ℕ) → Contains (values (cell_at s new)) value
-      → Contains (values (cell_at s old)) value
 
 -- bytes of the bitmap's sector `k` whose bits have each block of one set, and no block that another lacks
 pub record HasBitsBetween (area : Area) (k : ℕ) (least most : List Bool)

@@ -10,7 +10,8 @@ use Rattle.fill_bitmap.specs.Disk.{header_of, HasHeader, sector_at, bitmap_secto
 use Rattle.fill_store.specs.declared.opening.OpeningStep.{OpeningStep}
 use Rattle.fill_store.specs.declared.opening.OpeningStep.TheVariants.{ReadHeader, ReadBits, WriteZeros, FlushZeros, WriteHeader, FlushHeader, Nothing}
 use Rattle.fill_store.specs.Sectors.{zero_bits}
-use Rattle.fill_store.specs.Cells.{value_at, Each, HasBits, HasReserved, MadeBy, KeepsBits}
+use Rattle.plain_drive.specs.Cells.{value_at, Each}
+use Rattle.fill_store.specs.Cells.{HasBits, HasReserved, MadeBy, KeepsBits}
 use Rattle.fill_store.specs.Opening.{OpeningState, next_in_opening, bytes_to_open}
 
 -- one of two values: the old or the new

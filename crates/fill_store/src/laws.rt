@@ -12,7 +12,8 @@ ghost use Rattle.fill_bitmap.specs.Bitmap.{Sets, IsNested, blocks_in, empty_sets
 ghost use Rattle.fill_bitmap.specs.BlockSet.{IsWithin};
 ghost use Rattle.fill_bitmap.specs.Disk.{HasHeader, header_of, sector_at, bitmap_sector, stored_blocks, guest_view};
 ghost use Rattle.fill_store.specs.Sectors.{zero_bits};
-ghost use Rattle.fill_store.specs.Cells.{Each, KeepsBits, ForgetsOld, value_at};
+ghost use Rattle.plain_drive.specs.Cells.{Each, ForgetsOld, value_at};
+ghost use Rattle.fill_store.specs.Cells.{KeepsBits};
 ghost use Rattle.fill_store.specs.Opening.{OpeningState, opening_of, next_in_opening};
 ghost use Rattle.fill_store.specs.OpeningCells.{IsEither, HasOnlyZeros, Opens, MadeByOpening};
 ghost use Rattle.fill_store.specs.Settle.{SettleState, settle_of, next_in_settling};

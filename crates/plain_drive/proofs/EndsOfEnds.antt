@@ -1,8 +1,12 @@
--- Cells that hold the newest of others' values: of their own, of ends, and after a write and a flush of both.
-use Rattle.std.proofs.Common.{ℕ, zero, suc, ◌++◌, List, [], ◌∷◌, sym, ap, ◌∙◌, append_assoc, append-nil}
+-- Cells that hold the newest of others' values: of their own, of ends, after a write and a flush of both; and what
+-- they forget.
+use Rattle.std.proofs.Common.{◌≡◌, ℕ, zero, suc, ◌++◌, List, [], ◌∷◌, sym, ap, ◌∙◌, append_assoc, append-nil, length, refl, subst}
+use Rattle.std.specs.Prelude.{Contains}
+use Rattle.std.proofs.lemmas.List.Elements.{Contains-append_left}
 use Rattle.ata_taskfile.specs.Device.{Cell}
 use Rattle.plain_drive.specs.Plain.{values, appended, all_flushed}
 use Rattle.plain_drive.specs.Physical.{AreEndsOf}
+use Rattle.plain_drive.specs.Cells.{cell_at, ForgetsOld}
 use Rattle.plain_drive.proofs.CellEnds.{ends-current}
 
 -- cells are ends of themselves
@@ -47,3 +51,26 @@ ends-flushed (cell ∷ cells) (whole ∷ wholes) ends = (
   ([], ap (λ value. value ∷ []) (sym (ends-current (cell ∷ cells) (whole ∷ wholes) 0 ends))),
   ends-flushed cells wholes ends.1,
 )
+
+-- there are as many, and each has values of its whole alone
+ends-length : (cells wholes : List Cell) → AreEndsOf cells wholes → length cells ≡ length wholes
+ends-length [] [] ends = refl
+ends-length [] (whole ∷ wholes) ends = absurd ends
+ends-length (cell ∷ cells) [] ends = absurd ends
+ends-length (cell ∷ cells) (whole ∷ wholes) ends = ap suc (ends-length cells wholes ends.1)
+
+ends-values : (cells wholes : List Cell) (s : ℕ) (value : List ℕ) → AreEndsOf cells wholes
+    → Contains (values (cell_at s cells)) value → Contains (values (cell_at s wholes)) value
+ends-values [] [] s value ends held = held
+ends-values [] (whole ∷ wholes) s value ends held = absurd ends
+ends-values (cell ∷ cells) [] s value ends held = absurd ends
+ends-values (cell ∷ cells) (whole ∷ wholes) zero value ends held =
+    subst (λ l. Contains l value) (sym ends.0.1) (Contains-append_left (values cell) ends.0.0 value held)
+ends-values (cell ∷ cells) (whole ∷ wholes) (suc s) value ends held = ends-values cells wholes s value ends.1 held
+
+pub ends-forget : (old new : List Cell) → AreEndsOf new old → ForgetsOld old new
+ends-forget old new ends = record {
+  cells = ends-length new old ends;
+  newest = λ s. ends-current new old s ends;
+  values = λ s value held. ends-values new old s value ends held;
+}

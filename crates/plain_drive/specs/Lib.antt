@@ -1,4 +1,5 @@
 pub mod Plain
+pub mod Cells
 pub mod Words
 pub mod Identify
 pub mod Change

@@ -4,6 +4,7 @@ ghost use Rattle.std.specs.Prelude.{ℕ, List, length, replicate};
 ghost use Rattle.ata_taskfile.specs.declared.Step.{Step as StepOf};
 ghost use Rattle.ata_taskfile.specs.Device.{Cell};
 ghost use Rattle.plain_drive.specs.Plain.{appended, all_flushed};
+ghost use Rattle.plain_drive.specs.Cells.{ForgetsOld};
 ghost use Rattle.plain_drive.specs.Step.{acts, stepped_if};
 ghost use Rattle.plain_drive.specs.Physical.{Physical, AreEndsOf, seen, physical_step, physical_destaged, physical_cut};
 ghost use Rattle.plain_drive.specs.Seen.{HasStepped, HasLetGo, HasCut};
@@ -28,4 +29,9 @@ pub fn ends_of_cells_are_kept()
         → AreEndsOf (appended s value cells) (appended s value wholes) }
     ensures flush { (cells wholes : List Cell) → AreEndsOf cells wholes
         → AreEndsOf (all_flushed cells) (all_flushed wholes) }
+{}
+
+/// Cells that hold the newest of others' values are as many, have the same current values, and forgot older ones alone.
+pub fn ends_forget_older_values()
+    ensures { (old new : List Cell) → AreEndsOf new old → ForgetsOld old new }
 {}

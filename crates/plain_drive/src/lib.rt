@@ -1,15 +1,15 @@
 //! The book of the drive: what a plain drive means.
 //!
 //! A plain drive is a device with the guest's memory, and knows no cache, bitmap, frame or lease. Start with
-//! `specs/Plain.antt` for its state, then `specs/Step.antt` for what a good and a bad step do,
-//! `specs/Change.antt` for what they do to the sectors, and `specs/Cut.antt` for what a power cut may leave. Each
-//! access is a definition of `ata_taskfile`; `specs/Words.antt` has many words through Data, and `specs/Identify.antt`
-//! those of IDENTIFY DEVICE. `specs/Physical.antt` has a drive that keeps its sectors behind a write cache; its whole
-//! runs are those of `plain_run`. `specs/Seen.antt` has the steps, destages and power cuts of such a drive as they
-//! are seen without its cache, and the laws in `caching` show that a physical drive makes exactly these.
-//! `specs/Alike.antt` says when a guest can't tell two drives apart, and the laws in `alike` show that no access and no
-//! step tells. The functions below are laws that show what the other definitions mean, in that order; `docs/drive.md`
-//! has the same as tables.
+//! `specs/Plain.antt` for its state and `specs/Cells.antt` for the values of its sectors, then `specs/Step.antt` for
+//! what a good and a bad step do, `specs/Change.antt` for what they do to the sectors, and `specs/Cut.antt` for what a
+//! power cut may leave. Each access is a definition of `ata_taskfile`; `specs/Words.antt` has many words through Data,
+//! and `specs/Identify.antt` those of IDENTIFY DEVICE. `specs/Physical.antt` has a drive that keeps its sectors behind
+//! a write cache; its whole runs are those of `plain_run`. `specs/Seen.antt` has the steps, destages and power cuts of
+//! such a drive as they are seen without its cache, and the laws in `caching` show that a physical drive makes exactly
+//! these. `specs/Alike.antt` says when a guest can't tell two drives apart, and the laws in `alike` show that no access
+//! and no step tells. The functions below are laws that show what the other definitions mean, in that order;
+//! `docs/drive.md` has the same as tables.
 
 #![tactic(auto)]
 
@@ -37,7 +37,7 @@ pub use alike::{
     accesses_keep_drives_alike, alike_drives_answer_alike, likeness_is_mutual,
     nothing_looks_at_the_last_command, steps_keep_drives_alike,
 };
-pub use caching::{a_physical_drive_is_seen, ends_of_cells_are_kept};
+pub use caching::{a_physical_drive_is_seen, ends_forget_older_values, ends_of_cells_are_kept};
 
 /// A value that is written is the current one of its sector, and the other sectors keep all of theirs.
 pub fn a_written_value_is_current()

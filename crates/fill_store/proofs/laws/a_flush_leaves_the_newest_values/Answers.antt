@@ -1,5 +1,5 @@
 use Rattle.std.proofs.Common.{◌≡◌, refl}
-use Rattle.fill_store.specs.Cells.{value_at}
+use Rattle.plain_drive.specs.Cells.{value_at}
 use Rattle.fill_store.proofs.Values.{flush_forgets, each_flushed}
 use Rattle.fill_store.proofs.laws.a_flush_leaves_the_newest_values.Goals as goal
 
