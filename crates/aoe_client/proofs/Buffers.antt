@@ -66,7 +66,7 @@ module _ (source : ℕ → List ℕ) (tag : ℕ) (sectors : List ℕ) (long : le
   pub whole_after : HasWholeBuffers (with_tag_sectors tag sectors f pool)
   whole_after = whole_written pool f.lease (with_part (tag - first_tag f) sectors (leased_bytes f.lease pool)) whole of full
 
-  -- the buffer holds them, and what it held
+  -- the buffer holds the tag's two sectors, and what it held
   pub own_holds : Holds source (Some f) pool → Holds source (Some (with_tag Answered tag f))
       (with_tag_sectors tag sectors f pool)
   own_holds holds i is =
@@ -87,7 +87,7 @@ module _ (source : ℕ → List ℕ) (tag : ℕ) (sectors : List ℕ) (long : le
             ∙ ap (λ n. source (n + i)) (sym same)
       ]
 
-  -- and another slot's buffer is as it was
+  -- the buffer of another slot holds what it held
   pub other_holds : (g : Fetching) → g.lease.buffer ≢ f.lease.buffer → Holds source (Some g) pool
       → Holds source (Some g) (with_tag_sectors tag sectors f pool)
   other_holds g apart holds i is =

@@ -60,7 +60,7 @@ module _ (source : ℕ → List ℕ) (pool : Region) where
   then_holds None s holds = sent_holds (first_due s) s holds
   then_holds (Some tag) s holds = holds
 
-  -- a tag that is sent leaves what they hold
+  -- a tag that is sent leaves what the buffers hold
   pub outlasts_sending : (c : Asking) → BothHold source c pool → BothHold source (next_sent c) pool
   outlasts_sending c holds = (
     sent_holds (first_due c.demand) c.demand holds.0,
@@ -68,7 +68,7 @@ module _ (source : ℕ → List ℕ) (pool : Region) where
         (first_due c.demand) c.background holds.1,
   )
 
-  -- and so does a tick
+  -- a tick leaves what the buffers hold
   pub outlasts_ticks : (c : Asking) → BothHold source c pool → BothHold source (both_ticked c) pool
   outlasts_ticks c holds = (ticked_holds c.demand holds.0, ticked_holds c.background holds.1)
 
@@ -81,7 +81,7 @@ module _ (source : ℕ → List ℕ) (pool : Region) where
   outlasts_asking Demand count block lease c holds = (fresh count block lease, holds.1)
   outlasts_asking Background count block lease c holds = (holds.0, fresh count block lease)
 
-  -- and a free slot has no buffer
+  -- a slot that is freed has no buffer
   pub outlasts_freeing : (slot : Slot) (c : Asking) → BothHold source c pool
       → BothHold source (with_slot slot None c) pool
   outlasts_freeing Demand c holds = (tt, holds.1)

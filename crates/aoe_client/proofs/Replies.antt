@@ -14,6 +14,6 @@ long bytes (Ata a) tag has read =
 long bytes (Config a) tag has read = absurd read
 long bytes Other tag has read = absurd read
 
--- it has room for the two sectors
+-- a frame that answers a tag has room for the two sectors
 pub answers_long : (bytes : List ℕ) (tag : ℕ) → Answers bytes tag → BODY_AT + PART_BYTES ≤ length bytes
 answers_long bytes tag a = long bytes a.0.argument tag a.1.0.says.argument a.1.1.argument

@@ -21,13 +21,13 @@ same_front n a b x y la lb e = (
       ∙ drop_at b y n lb,
 )
 
--- a number's bytes are no other's that fits
+-- a number's bytes, the highest first, are no other's that fits
 same_big : (n x y : ℕ) → x < 256 ^ n → y < 256 ^ n → big_bytes n x ≡ big_bytes n y → x ≡ y
 same_big n x y fits_x fits_y e =
     sym (big_number-reads_back n x [] fits_x) ∙ ap (λ bytes. big_from 0 n (bytes ++ [])) e
     ∙ big_number-reads_back n y [] fits_y
 
--- and the same with the lowest byte first
+-- a number's bytes, the lowest first, are no other's that fits
 pub same_little : (n x y : ℕ) → x < 256 ^ n → y < 256 ^ n → little_bytes n x ≡ little_bytes n y → x ≡ y
 same_little n x y fits_x fits_y e =
     sym (little_number-reads_back n x [] fits_x) ∙ ap (λ bytes. little_from 0 n (bytes ++ [])) e

@@ -27,7 +27,7 @@ written_says m fits of =
       fits = fits.argument;
     }
 
--- and is read so
+-- a frame that is written in the version that is spoken here is read as its message
 pub written_reads : (m : Aoe) → Fits m → IsArgumentOf m.header.command m.argument → m.header.version ≡ VERSION
     → IsReading (frame_of m) (Ok m)
 written_reads m fits of version = record { says = written_says m fits of; version = version }

@@ -82,7 +82,7 @@ module _ (n k : ℕ) (bytes block : List ℕ) (long : length bytes ≡ n) (fits 
       ap (λ m. take m (drop (k * n) (written_over (k * n) bytes block))) (sym long)
       ∙ written_there (k * n) bytes block (omega (arith, long, fits))
 
-  -- each other part than k is as it was
+  -- each part but k is as it was
   pub part_kept : (i : ℕ) → i ≢ k → take n (drop (i * n) (written_over (k * n) bytes block)) ≡ take n (drop (i * n) block)
   part_kept i apart = elim (cases_lt i k) [
     | inl below ↦ written_below (k * n) bytes block (omega (arith, long, fits)) (i * n) n
