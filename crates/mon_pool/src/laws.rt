@@ -1,7 +1,7 @@
 //! Laws of leases: what the calls mean for those that are held at once.
 
-ghost use Rattle.std.specs.Prelude.{◌≡◌, ◌≢◌, ℕ, List, length, Some};
-ghost use Rattle.mon_pool.specs.Region.{AreOf, Held, IsOf, HasWholeBuffers, Region, leased_bytes, first_free, given, lease_of, leased, with_bytes};
+ghost use Rattle.std.specs.Prelude.{◌≡◌, ◌≢◌, ◌+◌, ◌<◌, ◌∷◌, ◌++◌, ℕ, IsSome, List, length, Some};
+ghost use Rattle.mon_pool.specs.Region.{AreOf, HasWholeBuffers, Held, IsOf, Region, all_given, buffers_in, first_free, given, lease_of, leased, leased_bytes, out_of, with_bytes};
 
 use crate::Pool;
 
@@ -40,4 +40,31 @@ pub fn bytes_are_the_holders()
         leased_bytes other (with_bytes lease pool bytes) ≡ leased_bytes other pool }
     ensures leases { (leases : List Held) (pool : Region) (lease : Held) (bytes : List ℕ) →
         AreOf leases pool → AreOf leases (with_bytes lease pool bytes) }
+{}
+
+/// A new lease is of the pool together with those that are held, wherever it is named among them.
+pub fn a_lease_is_added()
+    ensures added { (before behind : List Held) (pool : Region) (buffer : ℕ) →
+        first_free pool ≡ Some buffer → AreOf (before ++ behind) pool →
+        AreOf (before ++ lease_of pool buffer ∷ behind) (leased (Some buffer) pool) }
+{}
+
+/// Leases that are held at once may be named, and so given back, in any order.
+pub fn leases_have_no_order()
+    ensures first { (before behind : List Held) (lease : Held) (pool : Region) →
+        AreOf (before ++ lease ∷ behind) pool → AreOf (lease ∷ before ++ behind) pool }
+    ensures anywhere { (before behind : List Held) (lease : Held) (pool : Region) →
+        AreOf (lease ∷ before ++ behind) pool → AreOf (before ++ lease ∷ behind) pool }
+{}
+
+/// How many buffers are out: a new lease is one more, a lease that is given back one fewer, and those that are held
+/// are as many. While not all are out one is free.
+pub fn leases_are_counted()
+    ensures out { (pool : Region) (buffer : ℕ) → first_free pool ≡ Some buffer →
+        out_of (leased (Some buffer) pool) ≡ out_of pool + 1 }
+    ensures back { (pool : Region) (lease : Held) → IsOf lease pool →
+        out_of (given lease pool) + 1 ≡ out_of pool }
+    ensures held { (leases : List Held) (pool : Region) → AreOf leases pool →
+        out_of (all_given leases pool) + length leases ≡ out_of pool }
+    ensures free { (pool : Region) → out_of pool < buffers_in pool → IsSome (first_free pool) }
 {}

@@ -12,7 +12,8 @@ mod pool;
 mod tests;
 
 pub use laws::{
-    a_given_lease_is_spent, a_new_lease_is_apart, a_pool_is_whole, bytes_are_the_holders,
+    a_given_lease_is_spent, a_lease_is_added, a_new_lease_is_apart, a_pool_is_whole,
+    bytes_are_the_holders, leases_are_counted, leases_have_no_order,
 };
 pub use lease::Lease;
 pub use pool::Pool;
