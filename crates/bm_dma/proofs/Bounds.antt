@@ -6,8 +6,8 @@ use Rattle.byteorder.specs.Endian.{little_number}
 use Rattle.bm_dma.specs.declared.descriptor.Descriptor.{Descriptor}
 use Rattle.bm_dma.specs.declared.search.Found.TheVariants.{All}
 use Rattle.bm_dma.specs.Descriptor.{bytes_meant, descriptor_in, is_good}
-use Rattle.bm_dma.specs.Run.{Run, run_with, run_from, run_of, sector_places, is_tables_end, found_as, found_in}
-use Rattle.bm_dma.proofs.Searching.{length_both}
+use Rattle.bm_dma.specs.Run.{Run, run_with, run_from, run_of, sector_places, is_tables_end, found_in}
+use Rattle.bm_dma.proofs.Searching.{found_as, length_both}
 
 -- each is a byte
 abbrev AreBytes : List ℕ → Type 0

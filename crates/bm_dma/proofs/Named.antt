@@ -8,8 +8,9 @@ use Rattle.ata_taskfile.specs.declared.bus_master.Bus.{Bus}
 use Rattle.bm_dma.specs.declared.descriptor.Descriptor.{Descriptor}
 use Rattle.bm_dma.specs.declared.moves.Moved.TheVariants.{Short}
 use Rattle.bm_dma.specs.Descriptor.{descriptor_in, is_good, places_of}
-use Rattle.bm_dma.specs.Run.{Run, bad_run, run_with, run_from, run_of, sector_places, is_tables_end, found_as}
+use Rattle.bm_dma.specs.Run.{Run, bad_run, run_with, run_from, run_of, sector_places, is_tables_end}
 use Rattle.bm_dma.specs.Move.{moved_as, outcome_in, outcome}
+use Rattle.bm_dma.proofs.Searching.{found_as}
 
 within : (d : Descriptor) (size : ℕ) → is_good d size ≡ true → d.base + d.count ≤ size
 within d size good = grind (arith, nat_tests)

@@ -8,9 +8,9 @@ use Rattle.std.proofs.lemmas.Bool.{cases_eq, eq-eqb, ne_eqb}
 use Rattle.std.proofs.lemmas.Bool.Decides.{nat_tests}
 use Rattle.bm_dma.specs.declared.descriptor.Descriptor.{Descriptor}
 use Rattle.bm_dma.specs.declared.search.Found.{Found}
-use Rattle.bm_dma.specs.declared.search.Found.TheVariants.{All, Ended, Bad}
+use Rattle.bm_dma.specs.declared.search.Found.TheVariants.{All, TableEnded, Bad}
 use Rattle.bm_dma.specs.Descriptor.{bytes_meant, descriptor_in, is_good, with_piece, places_of}
-use Rattle.bm_dma.specs.Run.{Run, run_with, run_from, run_of, sector_places, found_as, found_in}
+use Rattle.bm_dma.specs.Run.{Run, run_with, run_from, run_of, sector_places, found_in}
 use Rattle.bm_dma.proofs.Lists.{take_both, drop_both}
 
 pub record Result : Type 0 where
@@ -24,7 +24,7 @@ result found places = record { found = found; places = places }
 abbrev pub good_one : Descriptor → ℕ → List ℕ → Result → Result
 good_one d end found rest =
     if length found == 512 then result (All (d.is_last && (d.count == end))) found
-    else (if d.is_last then result Ended found else rest)
+    else (if d.is_last then result TableEnded found else rest)
 
 abbrev pub searched : Descriptor → ℕ → ℕ → List ℕ → Result → Result
 searched d size skipped found rest =
@@ -38,6 +38,11 @@ search_from (suc n) at memory skipped found =
     searched (descriptor_in (drop at memory)) (length memory) skipped found
     (search_from n (at + 8) memory (skipped - (descriptor_in (drop at memory)).count)
     (with_piece (descriptor_in (drop at memory)) skipped found))
+
+-- what is found, by whether all places are there, whether the last of them is the table's last, and whether the table
+-- has an end
+abbrev pub found_as : Bool → Bool → Bool → Found
+found_as full last ended = if full then All last else (if ended then TableEnded else Bad)
 
 -- what the run behind a search's places so far gives
 abbrev pub expected : ℕ → List ℕ → List ℕ → Bool → Result
@@ -79,7 +84,7 @@ bad_one skipped found few =
 
 -- what is found at the mark of the end
 last_found : (full at_end : Bool) (found : List ℕ)
-    → (if full then result (All (true && at_end)) found else result Ended found) ≡ result
+    → (if full then result (All (true && at_end)) found else result TableEnded found) ≡ result
     (found_as full (true && at_end) true) found
 last_found true at_end found = refl
 last_found false at_end found = refl
@@ -246,7 +251,7 @@ completes n i at skipped end memory found more d last below is good e piece full
 pub ends_table : (n i at skipped : ℕ) (memory found more : List ℕ) (d : Descriptor) → i < n
     → d ≡ descriptor_in (drop at memory)
     → is_good d (length memory) ≡ true → more ≡ with_piece d skipped found → (length more ≡ 512 → ⊥) → d.is_last ≡ true
-    → search_from (n - i) at memory skipped found ≡ result Ended more
+    → search_from (n - i) at memory skipped found ≡ result TableEnded more
 ends_table n i at skipped memory found more d below is good piece part last =
     let short : length (with_piece d skipped found) ≡ 512 → ⊥ = (λ e. part (ap length piece ∙ e)) in
     at_one n i at skipped memory found d below is

@@ -3,6 +3,7 @@
 use Rattle.std.specs.Prelude.{ℕ, zero, suc, ◌+◌, ◌-◌, ◌%◌, ◌==◌, Bool, not, ◌&&◌, nat_le, bit_and, List, ◌++◌, length, take, drop}
 use Rattle.std.specs.List.{range_with_len}
 use Rattle.byteorder.specs.Endian.{little_number}
+use Rattle.ata_taskfile.specs.declared.registers.TheConstants.{SECTOR_BYTES}
 use Rattle.bm_dma.specs.declared.descriptor.Descriptor.{Descriptor}
 use Rattle.bm_dma.specs.declared.descriptor.TheConstants.{END_OF_TABLE}
 
@@ -30,4 +31,4 @@ places_of d = range_with_len d.base d.count
 
 -- the places of a sector that were found, and those that a descriptor has for it behind its first `skipped`
 abbrev pub with_piece : Descriptor → ℕ → List ℕ → List ℕ
-with_piece d skipped found = found ++ take (512 - length found) (drop skipped (places_of d))
+with_piece d skipped found = found ++ take (SECTOR_BYTES - length found) (drop skipped (places_of d))

@@ -4,7 +4,7 @@ use Rattle.ata_taskfile.specs.declared.bus_master.Bus.{Bus}
 use Rattle.bm_dma.specs.declared.moves.Moved.{Moved}
 use Rattle.bm_dma.specs.declared.moves.Moved.TheVariants.{Whole, Short, Outside, Waiting}
 use Rattle.bm_dma.specs.declared.search.Found.{Found}
-use Rattle.bm_dma.specs.declared.search.Found.TheVariants.{All, Ended, Bad}
+use Rattle.bm_dma.specs.declared.search.Found.TheVariants.{All, TableEnded, Bad}
 use Rattle.bm_dma.specs.Memory.{byte_at, scattered}
 use Rattle.bm_dma.specs.Run.{run_of, sector_places, found_in}
 
@@ -20,7 +20,7 @@ places_next b memory = places_in b.walk b.pointer memory
 -- the answer to what was found with so many places (own)
 abbrev pub moved_as : Found → ℕ → Moved
 moved_as (All last) places = Whole
-moved_as Ended places = Short places
+moved_as TableEnded places = Short places
 moved_as Bad places = Outside
 
 -- the answer to moving the next sector of a walk (own)
@@ -35,16 +35,16 @@ abbrev pub outcome : Bus → List ℕ → Moved
 outcome b memory = outcome_in b.walk b.pointer memory
 
 -- the walk is over, and active is 0 (Bus Master IDE 1.0, status register)
-abbrev pub ended : Bus → Bus
-ended b = record b { active = false; walk = None }
+abbrev pub walk_over : Bus → Bus
+walk_over b = record b { active = false; walk = None }
 
 -- the bus master after what was found of the sector behind so many: the walk is over where the table is, and a bad
 -- descriptor is an error (own)
 abbrev pub bus_after : Found → ℕ → Bus → Bus
 bus_after (All false) moved b = record b { walk = Some (moved + 1) }
-bus_after (All true) moved b = ended b
-bus_after Ended moved b = ended b
-bus_after Bad moved b = ended (record b { error = true })
+bus_after (All true) moved b = walk_over b
+bus_after TableEnded moved b = walk_over b
+bus_after Bad moved b = walk_over (record b { error = true })
 
 -- the bus master after moving the next sector of such a walk; without one nothing changes (own)
 abbrev pub bus_in : Option ℕ → List ℕ → Bus → Bus

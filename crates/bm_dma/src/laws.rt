@@ -2,6 +2,8 @@
 
 ghost use Rattle.std.specs.Prelude.{◌≡◌, ℕ, ◌+◌, ◌<◌, ◌≤◌, List, All, length, drop};
 ghost use Rattle.ata_taskfile.specs.declared.bus_master.Bus.{Bus};
+ghost use Rattle.ata_taskfile.specs.declared.registers.TheConstants.{SECTOR_BYTES};
+ghost use Rattle.bm_dma.specs.declared.descriptor.TheConstants.{DESCRIPTOR_BYTES};
 ghost use Rattle.bm_dma.specs.declared.moves.Moved.TheVariants.{Short};
 ghost use Rattle.bm_dma.specs.Descriptor.{descriptor_in};
 ghost use Rattle.bm_dma.specs.Run.{bad_run, run_with, run_of};
@@ -9,11 +11,11 @@ ghost use Rattle.bm_dma.specs.Move.{outcome};
 
 /// A run is its first descriptor with the run behind it, and none where the descriptor isn't all in memory.
 pub fn runs_begin_with_a_descriptor()
-    ensures first { (pointer : ℕ) (memory : List ℕ) → pointer + 8 ≤ length memory →
+    ensures first { (pointer : ℕ) (memory : List ℕ) → pointer + DESCRIPTOR_BYTES ≤ length memory →
         run_of pointer memory
         ≡ run_with (descriptor_in (drop pointer memory)) (length memory)
-        (run_of (pointer + 8) memory) }
-    ensures past { (pointer : ℕ) (memory : List ℕ) → length memory < pointer + 8 →
+        (run_of (pointer + DESCRIPTOR_BYTES) memory) }
+    ensures past { (pointer : ℕ) (memory : List ℕ) → length memory < pointer + DESCRIPTOR_BYTES →
         run_of pointer memory ≡ bad_run }
 {}
 
@@ -26,5 +28,5 @@ pub fn places_are_in_memory()
 /// A short move has fewer bytes than a sector.
 pub fn short_moves_are_below_a_sector()
     ensures below { (bus : Bus) (memory : List ℕ) (n : ℕ) →
-        outcome bus memory ≡ Short n → n < 512 }
+        outcome bus memory ≡ Short n → n < SECTOR_BYTES }
 {}

@@ -16,12 +16,13 @@ pub struct GuestMemory {
 
 impl Model for GuestMemory {
     ghost use Rattle.std.specs.Prelude.{ℕ, List, ◌≤◌, length};
+    ghost use Rattle.bm_dma.specs.declared.memory.TheConstants.{MOST_BYTES};
 
     ghost Value = { List ℕ };
 
     ghost view = { λ memory. memory.bytes.items };
 
-    ghost invariant = { λ memory. length memory.bytes.items ≤ 16777216 };
+    ghost invariant = { λ memory. length memory.bytes.items ≤ MOST_BYTES };
 }
 
 impl GuestMemory {

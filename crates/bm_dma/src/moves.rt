@@ -2,19 +2,20 @@
 
 ghost use Rattle.std.specs.Prelude.{◌≡◌, ◌+◌, ◌<◌, ◌≤◌, ◌^◌, [], ℕ, false, map, length};
 ghost use Rattle.bm_dma.specs.Memory.{AreElsewhere, byte_at, scattered};
-ghost use Rattle.bm_dma.specs.Move.{places_next, outcome, moved_as, ended, bus_after, bus_next, memory_after, sector_after};
+ghost use Rattle.bm_dma.specs.Move.{places_next, outcome, moved_as, walk_over, bus_after, bus_next, memory_after, sector_after};
 
 use crate::memory::GuestMemory;
 use crate::search::{Found, Places, find_places};
 use arrayvec::ArrayVec;
 use ata_taskfile::Bus;
+use ata_taskfile::registers::SECTOR_BYTES;
 
 /// What became of moving one sector (own).
 #[derive(Clone, Copy, Debug, PartialEq, Eq)]
 pub enum Moved {
-    /// All 512 bytes have their places.
+    /// All bytes of the sector have their places.
     Whole,
-    /// The table ends after so many of the 512 places.
+    /// The table ends after so many of the sector's places.
     Short(u32),
     /// A bad descriptor is met before the places are complete.
     Outside,
@@ -28,7 +29,7 @@ pub enum Moved {
 /// All places are found before the first byte moves, and the bytes move in the order of the places, so a sector may
 /// overwrite the table that names its places. Where the table is too short the sector's first bytes move, and after
 /// `Outside` and `Waiting` memory is as it was (own).
-pub fn move_in(bus: &mut Bus, memory: &mut GuestMemory, sector: &[u8; 512]) -> Moved
+pub fn move_in(bus: &mut Bus, memory: &mut GuestMemory, sector: &[u8; SECTOR_BYTES]) -> Moved
     ensures result { result ≡ outcome bus.old memory.old }
     ensures bus { bus.new ≡ bus_next bus.old memory.old }
     ensures memory { memory.new
@@ -50,7 +51,7 @@ pub fn move_in(bus: &mut Bus, memory: &mut GuestMemory, sector: &[u8; 512]) -> M
 /// descriptor table).
 ///
 /// Only after `Whole` is `sector` what memory has there; after any other answer it is as it was (own).
-pub fn move_out(bus: &mut Bus, memory: &GuestMemory, sector: &mut [u8; 512]) -> Moved
+pub fn move_out(bus: &mut Bus, memory: &GuestMemory, sector: &mut [u8; SECTOR_BYTES]) -> Moved
     ensures result { result ≡ outcome bus.old memory.now }
     ensures bus { bus.new ≡ bus_next bus.old memory.now }
     ensures sector { sector.new
@@ -86,7 +87,7 @@ fn take_on(bus: &mut Bus, done: u32, found: Found)
 {
     match found {
         Found::All(false) => bus.walk = Some(done + 1),
-        Found::All(true) | Found::Ended => end(bus),
+        Found::All(true) | Found::TableEnded => end(bus),
         Found::Bad => {
             bus.error = true;
             end(bus);
@@ -95,7 +96,7 @@ fn take_on(bus: &mut Bus, done: u32, found: Found)
 }
 
 fn end(bus: &mut Bus)
-    ensures ended { bus.new ≡ ended bus.old }
+    ensures over { bus.new ≡ walk_over bus.old }
 {
     bus.active = false;
     bus.end_walk();
@@ -107,13 +108,13 @@ fn moved_as(found: Found, places: u32) -> Moved
 {
     match found {
         Found::All(_) => Moved::Whole,
-        Found::Ended => Moved::Short(places),
+        Found::TableEnded => Moved::Short(places),
         Found::Bad => Moved::Outside,
     }
 }
 
-fn scatter(memory: &mut GuestMemory, places: &[u32], sector: &[u8; 512])
-    requires { length places.now ≤ 512 }
+fn scatter(memory: &mut GuestMemory, places: &[u32], sector: &[u8; SECTOR_BYTES])
+    requires { length places.now ≤ SECTOR_BYTES }
     ensures moved { memory.new ≡ scattered places.now sector.now memory.old }
 {
     for (i, place) in places.iter().enumerate() {
@@ -121,8 +122,8 @@ fn scatter(memory: &mut GuestMemory, places: &[u32], sector: &[u8; 512])
     }
 }
 
-fn gather(memory: &GuestMemory, places: &[u32], sector: &mut [u8; 512])
-    requires { length places.now ≡ 512 }
+fn gather(memory: &GuestMemory, places: &[u32], sector: &mut [u8; SECTOR_BYTES])
+    requires { length places.now ≡ SECTOR_BYTES }
     ensures bytes { sector.new ≡ map (byte_at memory.now) places.now }
 {
     for (i, byte) in sector.iter_mut().enumerate() {

@@ -8,9 +8,10 @@ ghost use Rattle.bm_dma.specs.Run.{run_of, sector_places, found_in};
 use crate::descriptor::{DESCRIPTOR_BYTES, Descriptor};
 use crate::memory::MOST_BYTES;
 use arrayvec::ArrayVec;
+use ata_taskfile::registers::SECTOR_BYTES;
 
-/// The addresses of the 512 bytes of one sector, in order, as far as they were found.
-pub(crate) type Places = ArrayVec<u32, 512>;
+/// The addresses of the bytes of one sector, in order, as far as they were found.
+pub(crate) type Places = ArrayVec<u32, SECTOR_BYTES>;
 
 /// How a search for the places of a sector ended.
 #[derive(Clone, Copy)]
@@ -18,7 +19,7 @@ pub(crate) enum Found {
     /// All were found; it says whether the last of them is the table's last.
     All(bool),
     /// The table ended before.
-    Ended,
+    TableEnded,
     /// A bad descriptor was met before.
     Bad,
 }
@@ -34,30 +35,31 @@ pub(crate) fn find_places(memory: &[u8], pointer: u32, moved: u32, places: &mut 
 {
     let size = memory.len();
     let top = pointer as usize;
-    let mut skipped = moved as usize * 512;
+    let mut skipped = moved as usize * SECTOR_BYTES;
     for i in 0..size.saturating_sub(top) / DESCRIPTOR_BYTES {
         let descriptor = Descriptor::read(memory, top + DESCRIPTOR_BYTES * i);
         if !descriptor.is_good(size) {
             return Found::Bad;
         }
-        let end = skipped + (512 - places.len());
+        let end = skipped + (SECTOR_BYTES - places.len());
         add_piece(&descriptor, skipped, end, places);
         if places.is_full() {
             return Found::All(descriptor.ends_table_at(end));
         }
         if descriptor.is_last {
-            return Found::Ended;
+            return Found::TableEnded;
         }
         skipped = skipped.saturating_sub(descriptor.count as usize);
     }
+    // The next descriptor isn't all in memory, and so is a bad one.
     Found::Bad
 }
 
 // Adds the places of a descriptor behind its first `start`, up to the one behind its first `end`.
 fn add_piece(descriptor: &Descriptor, start: usize, end: usize, places: &mut Places)
     requires within { descriptor.now.base + descriptor.now.count ≤ MOST_BYTES }
-    requires few { length places.old.items ≤ 512 }
-    requires room { end ≡ start + (512 - length places.old.items) }
+    requires few { length places.old.items ≤ SECTOR_BYTES }
+    requires room { end ≡ start + (SECTOR_BYTES - length places.old.items) }
     ensures piece { places.new.items ≡ with_piece descriptor.now start places.old.items }
 {
     let count = descriptor.count as usize;
@@ -68,7 +70,7 @@ fn add_piece(descriptor: &Descriptor, start: usize, end: usize, places: &mut Pla
 
 fn push_range(first: u32, behind: u32, places: &mut Places)
     requires order { first ≤ behind }
-    requires room { length places.old.items + (behind - first) ≤ 512 }
+    requires room { length places.old.items + (behind - first) ≤ SECTOR_BYTES }
     ensures range { places.new.items ≡ places.old.items ++ range_with_len first (behind - first) }
 {
     for place in first..behind {

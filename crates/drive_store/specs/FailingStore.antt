@@ -5,11 +5,11 @@ use Rattle.drive_store.specs.declared.failing_store.FailingStore.{FailingStore}
 use Rattle.drive_store.specs.Store.{Sectors}
 use Rattle.drive_store.specs.MemoryStore.{sectors_of}
 
--- it tells its sectors (own)
+-- a store of which one call fails tells its sectors (own)
 abbrev pub sectors_behind : FailingStore → Sectors
 sectors_behind s = sectors_of s.memory
 
--- how many of its calls failed
+-- how many calls to such a store failed
 abbrev pub faults_so_far : FailingStore → ℕ
 faults_so_far s = s.faults
 
@@ -21,7 +21,7 @@ calls_so_far s = s.calls
 abbrev pub failing_call : FailingStore → ℕ
 failing_call s = s.failing
 
--- the next call fails by its number (own)
+-- the next call to such a store fails by its number (own)
 abbrev pub IsPlanned : FailingStore → Type 0
 IsPlanned s = calls_so_far s ≡ failing_call s
 

@@ -1,6 +1,7 @@
 -- What a store in memory holds.
 use Rattle.std.specs.Prelude.{ℕ, length, replicate, Some}
 use Rattle.drive_store.specs.declared.memory_store.MemoryStore.{MemoryStore}
+use Rattle.drive_store.specs.declared.store.TheConstants.{SECTOR_BYTES}
 use Rattle.drive_store.specs.Store.{Sectors}
 
 -- a store in memory tells its sectors (own)
@@ -9,8 +10,8 @@ sectors_of s = record { count = length s.sectors.items; told = Some s.sectors.it
 
 -- so many sectors of zeros
 abbrev pub zeroed : ℕ → Sectors
-zeroed n = record { count = n; told = Some (replicate n (replicate 512 0)) }
+zeroed n = record { count = n; told = Some (replicate n (replicate SECTOR_BYTES 0)) }
 
--- it never fails (own)
+-- how often a call to a store in memory failed: never (own)
 abbrev pub faults_of : MemoryStore → ℕ
 faults_of s = 0

@@ -2,16 +2,17 @@
 use Rattle.std.specs.Prelude.{ℕ, ◌≡◌, List, length, All, Option, IfSome, Result, Ok, Err}
 use Rattle.bm_host.specs.Outside.{Rose}
 pub use Rattle.bm_host.specs.Outside.{Becomes}
+use Rattle.drive_store.specs.declared.store.TheConstants.{SECTOR_BYTES}
 
 -- so many sectors, and the bytes of each, one sector after the other, where these are told (own)
 pub record Sectors : Type 0 where
   pub count : ℕ
   pub told : Option (List (List ℕ))
 
--- a list of so many sectors, each of 512 bytes
+-- a list of so many whole sectors
 pub record IsListOf (count : ℕ) (list : List (List ℕ)) : Type 0 where
   pub number : length list ≡ count
-  pub sizes : All (λ bytes. length bytes ≡ 512) list
+  pub sizes : All (λ bytes. length bytes ≡ SECTOR_BYTES) list
 
 -- where sectors are told, they are as many as there are
 abbrev pub IsWhole : Sectors → Type 0

@@ -1,6 +1,6 @@
 //! The store in memory of which one call fails.
 
-use crate::{MemoryStore, Store, StoreFault};
+use crate::{MemoryStore, SECTOR_BYTES, Store, StoreFault};
 
 /// A store in memory of which one call fails, by its number: for tests of what stands above a store.
 ///
@@ -80,7 +80,7 @@ impl Store for FailingStore {
         self.memory.sectors()
     }
 
-    fn get(&mut self, sector: u64, into: &mut [u8; 512]) -> Result<(), StoreFault>
+    fn get(&mut self, sector: u64, into: &mut [u8; SECTOR_BYTES]) -> Result<(), StoreFault>
         requires { sector < (sectors_behind self.old).count }
         ensures cause { Counted (faults_so_far self.old) (faults_so_far self.new) result }
         ensures unmoved { sectors_behind self.new ≡ sectors_behind self.old }
@@ -93,7 +93,7 @@ impl Store for FailingStore {
         self.memory.get(sector, into)
     }
 
-    fn set(&mut self, sector: u64, from: &[u8; 512]) -> Result<(), StoreFault>
+    fn set(&mut self, sector: u64, from: &[u8; SECTOR_BYTES]) -> Result<(), StoreFault>
         requires { sector < (sectors_behind self.old).count }
         ensures cause { Counted (faults_so_far self.old) (faults_so_far self.new) result }
         ensures count { (sectors_behind self.new).count ≡ (sectors_behind self.old).count }

@@ -17,7 +17,7 @@ mod tests;
 pub use failing_store::FailingStore;
 pub use memory_store::MemoryStore;
 pub use std::alloc::AllocError as NoMemory;
-pub use store::Store;
+pub use store::{SECTOR_BYTES, Store};
 
 /// A call to a store failed. Its count of faults rose.
 #[derive(Clone, Copy, Debug, PartialEq, Eq)]

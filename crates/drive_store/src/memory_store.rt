@@ -1,15 +1,16 @@
 //! The store that keeps its sectors in memory.
 
 ghost use Rattle.std.specs.Prelude.{◌≡◌, length, All};
+ghost use Rattle.drive_store.specs.declared.store.TheConstants.{SECTOR_BYTES};
 
-use crate::{Store, StoreFault};
+use crate::{SECTOR_BYTES, Store, StoreFault};
 use std::alloc::{AllocError, Global};
 
 /// Sectors in memory, all told. No call of it fails, and none but `new` takes memory.
 #[derive(Drop)]
 pub struct MemoryStore {
-    sectors: Vec<[u8; 512]>,
-    ghost sizes: { All (λ bytes. length bytes ≡ 512) sectors.items },
+    sectors: Vec<[u8; SECTOR_BYTES]>,
+    ghost sizes: { All (λ bytes. length bytes ≡ SECTOR_BYTES) sectors.items },
 }
 
 impl MemoryStore {
@@ -22,7 +23,7 @@ impl MemoryStore {
     {
         let mut zeros = Vec::with_capacity(alloc, sectors as usize)?;
         for _ in 0..sectors {
-            zeros.push([0; 512])?;
+            zeros.push([0; SECTOR_BYTES])?;
         }
         Ok(MemoryStore { sectors: zeros })
     }
@@ -47,7 +48,7 @@ impl Store for MemoryStore {
         self.sectors.len() as u64
     }
 
-    fn get(&mut self, sector: u64, into: &mut [u8; 512]) -> Result<(), StoreFault>
+    fn get(&mut self, sector: u64, into: &mut [u8; SECTOR_BYTES]) -> Result<(), StoreFault>
         requires { sector < (sectors_of self.old).count }
         ensures cause { Counted (faults_of self.old) (faults_of self.new) result }
         ensures unmoved { sectors_of self.new ≡ sectors_of self.old }
@@ -59,7 +60,7 @@ impl Store for MemoryStore {
         Ok(())
     }
 
-    fn set(&mut self, sector: u64, from: &[u8; 512]) -> Result<(), StoreFault>
+    fn set(&mut self, sector: u64, from: &[u8; SECTOR_BYTES]) -> Result<(), StoreFault>
         requires { sector < (sectors_of self.old).count }
         ensures cause { Counted (faults_of self.old) (faults_of self.new) result }
         ensures count { (sectors_of self.new).count ≡ (sectors_of self.old).count }

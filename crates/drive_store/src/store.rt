@@ -5,6 +5,9 @@ ghost use Rattle.drive_store.specs.Store.{Sectors, IsWhole, Becomes, Counted};
 
 use crate::StoreFault;
 
+/// The bytes of a sector.
+pub const SECTOR_BYTES: usize = 512;
+
 /// The durable sectors of a drive (own).
 ///
 /// What they hold is known where the store tells it. A call that answers `StoreFault` has raised the count of faults;
@@ -27,7 +30,7 @@ pub trait Store {
         ensures { result ≡ (sectors self.now).count };
 
     /// Fills `into` with the bytes of a sector. No sector changes, whatever the answer.
-    fn get(&mut self, sector: u64, into: &mut [u8; 512]) -> Result<(), StoreFault>
+    fn get(&mut self, sector: u64, into: &mut [u8; SECTOR_BYTES]) -> Result<(), StoreFault>
         requires { sector < (sectors self.old).count }
         ensures cause { Counted (faults self.old) (faults self.new) result }
         ensures unmoved { sectors self.new ≡ sectors self.old }
@@ -36,7 +39,7 @@ pub trait Store {
             (λ list. slice_get list sector ≡ Some into.new)) };
 
     /// Replaces the bytes of a sector. After `StoreFault` nothing is said of what the sectors hold.
-    fn set(&mut self, sector: u64, from: &[u8; 512]) -> Result<(), StoreFault>
+    fn set(&mut self, sector: u64, from: &[u8; SECTOR_BYTES]) -> Result<(), StoreFault>
         requires { sector < (sectors self.old).count }
         ensures cause { Counted (faults self.old) (faults self.new) result }
         ensures count { (sectors self.new).count ≡ (sectors self.old).count }
@@ -45,6 +48,6 @@ pub trait Store {
             (sectors self.old).told (sectors self.new).told) }
         ensures unknown { Becomes (λ _ _. ⊤) (sectors self.old).told (sectors self.new).told };
 
-    /// Told sectors are as many as the store has, each of 512 bytes.
+    /// Told sectors are as many as the store has, each of `SECTOR_BYTES`.
     ghost whole: { (s : Self) → IsWhole (sectors s) };
 }

@@ -13,7 +13,8 @@ use Rattle.ata_taskfile.specs.Bus.{walk_ended}
 use Rattle.ata_taskfile.specs.Order.{has_range}
 use Rattle.ata_taskfile.specs.Data.{takes_words, moves_by_bus}
 use Rattle.ata_taskfile.specs.Lawful.{AreLawful, IsLawfulState}
-use Rattle.bm_dma.specs.Run.{run_of, sector_places, is_tables_end, found_as}
+use Rattle.bm_dma.specs.Run.{run_of, sector_places, is_tables_end}
+use Rattle.bm_dma.proofs.Searching.{found_as}
 use Rattle.bm_dma.specs.Move.{moved_as, outcome, outcome_in, bus_after, bus_next, bus_in}
 use Rattle.plain_drive.specs.Step.{failure_shown, position_after}
 

@@ -18,7 +18,8 @@ use Rattle.ata_taskfile.specs.declared.bus_master.Bus.{Bus}
 use Rattle.ata_taskfile.specs.Data.{takes_words}
 use Rattle.ata_taskfile.specs.Lawful.{IsLawful, IsLawfulState}
 use Rattle.bm_dma.specs.Memory.{byte_at}
-use Rattle.bm_dma.specs.Run.{run_of, sector_places, is_tables_end, found_as}
+use Rattle.bm_dma.specs.Run.{run_of, sector_places, is_tables_end}
+use Rattle.bm_dma.proofs.Searching.{found_as}
 use Rattle.bm_dma.specs.Move.{moved_as, outcome_in, places_in, sector_after}
 use Rattle.plain_drive.specs.Plain.{Plain}
 use Rattle.plain_drive.specs.Words.{bytes_of}

@@ -3,8 +3,8 @@
 ghost use Rattle.std.specs.Prelude.{◌≡◌, ◌≤◌, [], length, drop, slice_get, option_copied, option_map, IfOk};
 ghost use Rattle.write_cache.specs.Cache.{entry_of, holding, newest_of, put_out, taken_at, written};
 
-use crate::Entry;
 use crate::ring::take_out;
+use crate::{Entry, SECTOR_BYTES};
 use circular_buffer::HeapCircularBuffer;
 use std::alloc::{AllocError, Global};
 use std::marker::Model;
@@ -43,7 +43,7 @@ impl Cache {
 
     /// Writes these bytes to a sector. The entry that it puts out, the oldest, is handed back exactly where the cache
     /// was full.
-    pub fn put(&mut self, sector: u64, bytes: &[u8; 512]) -> Option<Entry>
+    pub fn put(&mut self, sector: u64, bytes: &[u8; SECTOR_BYTES]) -> Option<Entry>
         ensures after { self.new ≡ written (entry_of sector bytes.now) self.old }
         ensures oldest { result ≡ put_out self.old }
     {
@@ -54,7 +54,7 @@ impl Cache {
     }
 
     /// The bytes last written to a sector; None exactly where no entry is of it.
-    pub fn newest(&self, sector: u64) -> Option<&[u8; 512]>
+    pub fn newest(&self, sector: u64) -> Option<&[u8; SECTOR_BYTES]>
         ensures { option_copied result
             ≡ option_map (λ entry. entry.bytes) (newest_of sector self.now.entries) }
     {

@@ -13,7 +13,7 @@ mod ring;
 mod tests;
 
 pub use cache::{Cache, no_more_entries_than_room};
-pub use entry::Entry;
+pub use entry::{Entry, SECTOR_BYTES};
 pub use laws::{
     a_taken_entry_takes_the_older, a_written_value_leads, the_newest_entry_leads,
     the_oldest_entry_is_last,

@@ -35,7 +35,8 @@ fn pass_older(ring: &mut HeapCircularBuffer<Entry>, sector: u64, count: usize) -
     passed
 }
 
-// The same of the one entry at the front, where there is one.
+// Takes the entry off the front, where there is one. One of another sector goes behind the newest, and the answer is 1;
+// else it is 0.
 fn pass_front(ring: &mut HeapCircularBuffer<Entry>, sector: u64) -> usize
     ensures passed { let others = entries_but sector (take 1 ring.old.items) in
         ring.new ≡ buffer (drop 1 ring.old.items ++ others) ring.old.capacity }
@@ -63,7 +64,7 @@ fn bring_back(ring: &mut HeapCircularBuffer<Entry>, count: usize)
     }
 }
 
-// The same of the last entry, where there is one.
+// Brings the last entry, where there is one, back to the front.
 fn bring_last(ring: &mut HeapCircularBuffer<Entry>)
     ensures { let at = length ring.old.items - 1 in
         ring.new ≡ buffer (drop at ring.old.items ++ take at ring.old.items) ring.old.capacity }

@@ -1,6 +1,6 @@
 use Rattle.std.proofs.Common.{◌≡◌, ◌∙◌, ◌+◌, ◌-◌, ◌*◌, ◌/◌, sym, arith, length}
 use Rattle.std.proofs.lemmas.Bool.{eqb-true, eqb-false}
-use Rattle.bm_dma.specs.declared.search.Found.TheVariants.{All, Ended, Bad}
+use Rattle.bm_dma.specs.declared.search.Found.TheVariants.{All, TableEnded, Bad}
 use Rattle.bm_dma.proofs.Searching.{meets_end, meets_bad, completes, ends_table, goes_on, piece_fits, found_all}
 use Rattle.bm_dma.proofs.Bounds.{one_more}
 use Rattle.bm_dma.proofs.search.find_places.Goals as goal
@@ -45,7 +45,7 @@ pub returns-then-descriptor : goal.returns-then-descriptor
 returns-then-descriptor c =
     let part : length c.add_piece.new.places.items ≡ 512 → ⊥ = eqb-false (length c.add_piece.new.places.items) 512
     (sym c.is_full.ensures.value ∙ c.if-is_full.false) in
-    let all = found_all c.args.pointer c.args.moved c.args.memory.now Ended c.add_piece.new.places.items
+    let all = found_all c.args.pointer c.args.moved c.args.memory.now TableEnded c.add_piece.new.places.items
     (sym c.loop-i.invariant.rest ∙ ends_table ((length c.args.memory.now - c.args.pointer) / 8) c.loop-i.i
     (c.args.pointer + 8 * c.loop-i.i) c.loop-i.skipped
     c.args.memory.now c.loop-i.places.items c.add_piece.new.places.items c.read-descriptor.result
