@@ -1,6 +1,6 @@
 -- A reply of the server that is taken has the image's sectors.
-use Rattle.std.proofs.Common.{◌≡◌, ℕ, ◌+◌, ◌*◌, ◌^◌, ◌<◌, Bool, true, false, cond, List, [], length, take, drop, Some, None, Result, Ok, Err, refl, sym, ap, ◌∙◌, arith, lit<, inl, inr}
-use Rattle.std.specs.Prelude.{◌==◌, ◌&&◌, bit_and, nat_le}
+use Rattle.std.proofs.Common.{◌≡◌, ℕ, ◌+◌, ◌*◌, ◌^◌, ◌<◌, Bool, true, false, cond, List, [], length, take, drop, Option, Some, None, Result, Ok, Err, refl, sym, ap, ◌∙◌, arith, lit<, inl, inr}
+use Rattle.std.specs.Prelude.{◌==◌, ◌&&◌, bit_and, nat_le, option_map}
 use Rattle.std.proofs.lemmas.Bool.{cases_Bool, and_right}
 use Rattle.std.proofs.lemmas.List.{drop_at, drop-drop, take-take}
 use Rattle.byteorder.specs.Endian.{little_bytes}
@@ -18,6 +18,7 @@ use Rattle.aoe_frame.specs.Reading.{IsReading}
 use Rattle.aoe_frame.proofs.Layouts.{length-header_bytes, same_little}
 use Rattle.image_server.specs.Request.{asked_in, is_heard, is_identify, is_read}
 use Rattle.image_server.specs.Reply.{ata_answer, configuration, refusal, reply, reply_to}
+use Rattle.image_server.specs.Serving.{IsReply}
 use Rattle.aoe_client.specs.Messages.{Answers, IsReplyArgument, sectors_carried}
 
 -- a request of 48-bit addresses doesn't ask what the server is
@@ -91,7 +92,7 @@ module _ (sectors : ℕ) (image : List ℕ) (tag : ℕ) where
       good_answer sectors image a x refl (sym kept.2 ∙ flags ∙ read.flags) (status ∙ read.status)
       ∙ (λ i. take (many i) (drop (place i) image))
 
-  -- of each message that the server replies with
+  -- the sectors of a reply to a header with an argument, by what is read of it
   reply_sectors : (h : Header) (asked taken : Argument) → ArgumentFits asked → ArgumentFits taken
       → HasArgument (argument_written (reply_to sectors image h asked).argument) taken → IsReplyArgument taken tag
       → drop 12 (argument_written (reply_to sectors image h asked).argument) ≡ bytes_at (1024 * tag) 1024 image
@@ -103,7 +104,7 @@ module _ (sectors : ℕ) (image : List ℕ) (tag : ℕ) where
     | inr other ↦ let has_other = rw other at has in absurd (nothing_read taken [] (lit< tt) has_other read)
   ]
 
-  -- of each reading of a request
+  -- the sectors of a reply to what a request was read as, by what is read of it
   read_sectors : (r : Result Aoe FrameFault) (asked : List ℕ) (m : Aoe) (taken : Argument) → IsReading asked r
       → reply sectors image r ≡ Some m
       → ArgumentFits taken → HasArgument (argument_written m.argument) taken → IsReplyArgument taken tag
@@ -140,7 +141,7 @@ module _ (sectors : ℕ) (image : List ℕ) (tag : ℕ) where
       rw (← it) (sizes_to q.header q.argument reads.says.header.fits.source)
 
   -- a frame of the server that is taken for a tag has the tag's sectors of the image
-  pub image_sectors : (r : Result Aoe FrameFault) (asked bytes : List ℕ) (m : Aoe) → IsReading asked r
+  image_sectors : (r : Result Aoe FrameFault) (asked bytes : List ℕ) (m : Aoe) → IsReading asked r
       → reply sectors image r ≡ Some m
       → bytes ≡ frame_of m → Answers bytes tag → sectors_carried bytes ≡ bytes_at (1024 * tag) 1024 image
   image_sectors r asked bytes m reads is frame taken =
@@ -153,3 +154,15 @@ module _ (sectors : ℕ) (image : List ℕ) (tag : ℕ) where
       ap (take 1024) (sym (drop-drop 12 24 bytes) ∙ ap (drop 12) behind
       ∙ read_sectors r asked m taken.0.argument reads is says.fits has taken.1.1.argument)
       ∙ take-take 1024 1024 (drop (1024 * tag) image) (omega arith)
+
+  honest_where : (asked bytes : List ℕ) (r : Result Aoe FrameFault) (o : Option Aoe) → IsReading asked r
+      → reply sectors image r ≡ o → Some bytes ≡ option_map frame_of o → Answers bytes tag
+      → sectors_carried bytes ≡ bytes_at (1024 * tag) 1024 image
+  honest_where asked bytes r None reads is written taken = cc
+  honest_where asked bytes r (Some m) reads is written taken = image_sectors r asked bytes m reads is (cc) taken
+
+  -- an honest reply that answers a tag has the tag's sectors of the image
+  pub honest_sectors : (asked bytes : List ℕ) → IsReply sectors image asked (Some bytes) → Answers bytes tag
+      → sectors_carried bytes ≡ bytes_at (1024 * tag) 1024 image
+  honest_sectors asked bytes honest taken =
+      honest_where asked bytes honest.reading (reply sectors image honest.reading) honest.reads refl honest.written taken

@@ -1,13 +1,9 @@
 //! Laws of the client: what the buffers hold outlasts every call that hears no frame, and what they hold of the
 //! server's replies is the image's.
 
-ghost use Rattle.std.specs.Prelude.{◌≡◌, ◌*◌, ℕ, List, None, Result, Some};
+ghost use Rattle.std.specs.Prelude.{◌≡◌, ◌*◌, ℕ, List, None, Some};
 ghost use Rattle.bm_host.specs.Outside.{bytes_at};
-ghost use Rattle.aoe_frame.specs.declared.message.Aoe.{Aoe as AoeOf};
-ghost use Rattle.aoe_frame.specs.declared.message.FrameFault.{FrameFault as FaultOf};
-ghost use Rattle.aoe_frame.specs.Layout.{frame_of};
-ghost use Rattle.aoe_frame.specs.Reading.{IsReading};
-ghost use Rattle.image_server.specs.Reply.{reply};
+ghost use Rattle.image_server.specs.Serving.{IsReply};
 ghost use Rattle.mon_pool.specs.Region.{Held, Region};
 ghost use Rattle.aoe_client.specs.declared.client.Slot.{Slot as SlotOf};
 ghost use Rattle.aoe_client.specs.Asking.{Asking, both_ticked, next_sent, with_slot};
@@ -31,11 +27,10 @@ pub fn buffers_outlast()
         BothHold source c pool → BothHold source (with_slot slot None c) pool }
 {}
 
-/// What is taken for a tag of a frame that the server sent over an image, in reply to whatever frame, is the tag's two
-/// sectors of the image.
+/// A frame that the server sent over an image, in reply to whatever frame, has the two sectors of the image for the tag
+/// that it answers.
 pub fn the_servers_sectors_are_the_images()
-    ensures { (sectors : ℕ) (image : List ℕ) (tag : ℕ) (r : Result AoeOf FaultOf)
-        (asked bytes : List ℕ) (m : AoeOf) → IsReading asked r → reply sectors image r ≡ Some m →
-        bytes ≡ frame_of m → Answers bytes tag →
+    ensures sectors { (sectors : ℕ) (image asked bytes : List ℕ) (tag : ℕ) →
+        IsReply sectors image asked (Some bytes) → Answers bytes tag →
         sectors_carried bytes ≡ bytes_at (PART_BYTES * tag) PART_BYTES image }
 {}

@@ -1,4 +1,4 @@
-//! Laws of frames: a frame has one reading, and a message that is written is read back.
+//! Laws of frames: a frame has a reading, and no other one, and a message that is written is read back.
 
 ghost use Rattle.std.specs.Prelude.{◌≡◌, ℕ, List, Result, Ok};
 ghost use Rattle.aoe_frame.specs.declared.message.Aoe.{Aoe as AoeOf};
@@ -6,7 +6,7 @@ ghost use Rattle.aoe_frame.specs.declared.message.FrameFault.{FrameFault as Faul
 ghost use Rattle.aoe_frame.specs.Layout.{Fits, IsArgumentOf, SaysMessage, frame_of};
 ghost use Rattle.aoe_frame.specs.Reading.{IsReading};
 
-use crate::VERSION;
+use crate::{Frame, VERSION, parse};
 
 /// Bytes say one message at most, of whatever version.
 pub fn bytes_say_one_message()
@@ -19,6 +19,14 @@ pub fn a_frame_has_one_reading()
     ensures once { (bytes : List ℕ) (a b : Result AoeOf FaultOf) →
         IsReading bytes a → IsReading bytes b → a ≡ b }
 {}
+
+/// A frame has a reading.
+pub fn a_frame_has_a_reading(frame: &Frame)
+    ensures { (r : Result AoeOf FaultOf) × IsReading frame.now r }
+{
+    // What this call answers is one.
+    let _reading = parse(frame);
+}
 
 /// A message of the version that is spoken here, whose numbers fit their places, is read back as it was written.
 #[tactic(auto, using(crate::proofs::Written::written_reads))]

@@ -21,7 +21,10 @@ mod writing;
 pub use addresses::{ALL_MAJORS, ALL_MINORS, CLIENT, MAJOR, MINOR, SERVER};
 pub use bytes::Bytes;
 pub use frame::{Frame, MOST_BYTES};
-pub use laws::{a_frame_has_one_reading, a_written_message_is_read, bytes_say_one_message};
+pub use laws::{
+    a_frame_has_a_reading, a_frame_has_one_reading, a_written_message_is_read,
+    bytes_say_one_message,
+};
 pub use message::{
     ATA, ATA_BYTES, Aoe, Argument, AtaPart, BODY_AT, CONFIG, CONFIG_BYTES, ConfigPart, ETHER_TYPE,
     EXTENDED, FAILED, FrameFault, HEADER_BYTES, Header, MOST_BODY, REPLY, TYPE_AT, TYPE_END,

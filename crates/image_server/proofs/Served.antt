@@ -40,7 +40,7 @@ answer_sectors sectors told a r body asked is many read =
     (over_bytes sectors (512 * a.lba) (512 * a.count) told body (λ bytes. r ≡ answered a 0 80 bytes)
     (omega arith) many read is)
 
--- what is answered to the one reading of a frame is answered to the frame
+-- what is answered to a reading of a frame is answered to the frame
 pub answer_read : (sectors : ℕ) (told : Option (List ℕ)) (frame : List ℕ) (read : Result Aoe FrameFault)
     (answer : Option (List ℕ))
     → IsReading frame read
@@ -49,7 +49,7 @@ pub answer_read : (sectors : ℕ) (told : Option (List ℕ)) (frame : List ℕ) 
 answer_read sectors told frame read answer is over =
     over_map sectors told (λ image. answer ≡ option_map frame_of (reply sectors image read))
     (λ image. IsReply sectors image frame answer)
-    (λ image e r other. e ∙ ap (λ x. option_map frame_of (reply sectors image x)) (one_reading frame read r is other))
+    (λ image e. record { reading = read; reads = is; written = e })
     over
 
 pub answer_result : {E : Type 0} (sectors : ℕ) (told : Option (List ℕ)) (frame : List ℕ) (read : Result Aoe FrameFault)

@@ -18,11 +18,11 @@ abbrev pub OverImage : ℕ → Option (List ℕ) → (List ℕ → Type 0) → T
 OverImage sectors None P = (image : List ℕ) × (length image ≡ SECTOR_BYTES * sectors) × P image
 OverImage sectors (Some image) P = P image
 
--- the answer to a frame over an image: its reply as it is written, or none
-abbrev pub IsReply : ℕ → List ℕ → List ℕ → Option (List ℕ) → Type 0
-IsReply sectors image frame answer =
-    (r : Result Aoe FrameFault) → IsReading frame r
-    → answer ≡ option_map frame_of (reply sectors image r)
+-- an answer is the server's reply to a frame over an image, as it is written, or silence: that to the frame's reading
+pub record IsReply (sectors : ℕ) (image frame : List ℕ) (answer : Option (List ℕ)) : Type 0 where
+  pub reading : Result Aoe FrameFault
+  pub reads : IsReading frame reading
+  pub written : answer ≡ option_map frame_of (reply sectors image reading)
 
 -- no more of the image is looked at than this many sectors
 abbrev pub LooksAtMost : ℕ → Outside → Outside → Type 0
