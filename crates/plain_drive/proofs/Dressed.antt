@@ -13,12 +13,12 @@ use Rattle.ata_taskfile.specs.declared.Step.TheVariants as step
 use Rattle.ata_taskfile.specs.declared.Access.{Access}
 use Rattle.ata_taskfile.specs.Device.{Device, Cell}
 use Rattle.ata_taskfile.specs.Access.{accessed, answer_to}
-use Rattle.ata_taskfile.specs.Lawful.{position_of, position_end, has_possible_order, is_possible}
+use Rattle.ata_taskfile.specs.Lawful.{position_of, position_end, has_possible_order}
 use Rattle.bm_dma.specs.Move.{outcome, places_next, memory_after}
 use Rattle.plain_drive.specs.Plain.{Plain, sector_value}
 use Rattle.plain_drive.specs.Change.{leaves, change_made}
 use Rattle.plain_drive.specs.Step.{acts, step_made, stepped, proceeded, sector_given, transferred}
-use Rattle.plain_drive.specs.Alike.{holds_block, reads_sector, reads, gives_command, ReadAlike}
+use Rattle.plain_drive.specs.Alike.{holds_block, reads_sector, gives_command, ReadAlike}
 
 -- a block matters after an access where it did before
 pub holds_before : (a : Access) (d : Device) → holds_block (accessed a d).file.phase ≡ true
@@ -43,10 +43,11 @@ step_leaves s p t read = grind arith
 pub step_sectors : (s : Step) (p : Plain) → (step_made s p).device.sectors ≡ p.device.sectors
 step_sectors s p = grind arith
 
--- the order of a transfer by the bus master reads the sector that is due
-due_read : (order : Request) (done : ℕ) → order.form ≡ DmaIn → is_possible (Good order) ≡ true
-    → nat_lt done order.count ≡ true → reads (Good order) (order.first + done) ≡ true
-due_read order done form possible more = grind arith
+-- the order of a transfer by the bus master reads the sector that it gives next
+pub due_read : (phase : Phase) (order : Request) (done : ℕ) → has_possible_order phase ≡ true
+    → phase ≡ Busy (Good order) done → order.form ≡ DmaIn → nat_lt done order.count ≡ true
+    → reads_sector phase (order.first + done) ≡ true
+due_read phase order done possible busy form more = grind arith
 
 module _ (c : ℕ) (block : List ℕ) (cells : List Cell) where
   -- the same device with another byte of the last command, another block and other cells
@@ -87,7 +88,7 @@ module _ (c : ℕ) (block : List ℕ) (cells : List Cell) where
       → (step_made s (dressed_drive p)).device.block ≡ (step_made s p).device.block
   block_dressed s p same values below held = grind arith
 
-  -- the next sector of a read by the bus master goes to the same places in memory
+  -- memory, where the sector that a read by the bus master gives next is the same
   given_dressed : (order : Request) (done : ℕ) (p : Plain) (more : Bool)
       → (more ≡ true
       → sector_value (order.first + done) (dressed p.device) ≡ sector_value (order.first + done) p.device)
@@ -98,31 +99,34 @@ module _ (c : ℕ) (block : List ℕ) (cells : List Cell) where
       (same refl)
   given_dressed order done p false same = grind arith
 
-  proceeded_dressed : (form : Form) (order : Request) (done : ℕ) (p : Plain) → order.form ≡ form
-      → is_possible (Good order) ≡ true → ReadAlike (Busy (Good order) done) p.device (dressed p.device)
+  proceeded_dressed : (form : Form) (order : Request) (done : ℕ) (p : Plain)
+      → (form ≡ DmaIn → nat_lt done order.count ≡ true
+      → sector_value (order.first + done) (dressed p.device) ≡ sector_value (order.first + done) p.device)
       → (proceeded form order done (dressed_drive p)).memory ≡ (proceeded form order done p).memory
-  proceeded_dressed PioIn order done p e possible values = refl
-  proceeded_dressed PioOut order done p e possible values = grind arith
-  proceeded_dressed DmaIn order done p e possible values = given_dressed order done p (nat_lt done order.count)
-      (λ more. values (order.first + done) (due_read order done e possible more))
-  proceeded_dressed DmaOut order done p e possible values = grind arith
-  proceeded_dressed NoMove order done p e possible values = refl
+  proceeded_dressed PioIn order done p same = refl
+  proceeded_dressed PioOut order done p same = grind arith
+  proceeded_dressed DmaIn order done p same = given_dressed order done p (nat_lt done order.count) (same refl)
+  proceeded_dressed DmaOut order done p same = grind arith
+  proceeded_dressed NoMove order done p same = refl
 
-  stepped_dressed : (phase : Phase) (p : Plain) → has_possible_order phase ≡ true
-      → ReadAlike phase p.device (dressed p.device)
+  stepped_dressed : (phase : Phase) (p : Plain)
+      → ((order : Request) (done : ℕ) → phase ≡ Busy (Good order) done
+      → order.form ≡ DmaIn → nat_lt done order.count ≡ true
+      → sector_value (order.first + done) (dressed p.device) ≡ sector_value (order.first + done) p.device)
       → (stepped phase (dressed_drive p)).memory ≡ (stepped phase p).memory
-  stepped_dressed Reset p possible values = grind arith
-  stepped_dressed Idle p possible values = refl
-  stepped_dressed (Ready taken done left) p possible values = refl
-  stepped_dressed (Busy (Bad reason) done) p possible values = refl
-  stepped_dressed (Busy (Good order) done) p possible values =
-      proceeded_dressed order.form order done p refl possible values
+  stepped_dressed Reset p same = grind arith
+  stepped_dressed Idle p same = refl
+  stepped_dressed (Ready taken done left) p same = refl
+  stepped_dressed (Busy (Bad reason) done) p same = refl
+  stepped_dressed (Busy (Good order) done) p same = proceeded_dressed order.form order done p (same order done refl)
 
-  pub memory_dressed : (s : Step) (p : Plain) → has_possible_order p.device.file.phase ≡ true
-      → ReadAlike p.device.file.phase p.device (dressed p.device)
+  pub memory_dressed : (s : Step) (p : Plain)
+      → ((order : Request) (done : ℕ) → p.device.file.phase ≡ Busy (Good order) done
+      → order.form ≡ DmaIn → nat_lt done order.count ≡ true
+      → sector_value (order.first + done) (dressed p.device) ≡ sector_value (order.first + done) p.device)
       → (step_made s (dressed_drive p)).memory ≡ (step_made s p).memory
-  memory_dressed step.Good p possible values = stepped_dressed p.device.file.phase p possible values
-  memory_dressed step.Bad p possible values = grind arith
+  memory_dressed step.Good p same = stepped_dressed p.device.file.phase p same
+  memory_dressed step.Bad p same = grind arith
 
 -- an access does the same to a block that is the same
 pub block_accessed : (c : ℕ) (cells : List Cell) (a : Access) (d : Device)

@@ -1,5 +1,5 @@
 -- Drives that a guest can't tell apart stay so, through each access, step and destage.
-use Rattle.std.proofs.Common.{◌≡◌, ℕ, true, false, List, refl, sym, ap, ◌∙◌, subst}
+use Rattle.std.proofs.Common.{◌≡◌, ℕ, ◌+◌, true, false, List, refl, sym, ap, ◌∙◌, subst}
 use Rattle.ata_taskfile.specs.declared.Step.{Step}
 use Rattle.ata_taskfile.specs.declared.Stepped.{Stepped}
 use Rattle.ata_taskfile.specs.declared.Access.{Access}
@@ -14,7 +14,7 @@ use Rattle.plain_drive.specs.Step.{acts, step_made}
 use Rattle.plain_drive.specs.Seen.{HasStepped, HasLetGo}
 use Rattle.plain_drive.specs.Alike.{IsAlike, ReadAlike, without_command, beside_command, holds_block, reads_sector, after_access, gives_command}
 use Rattle.plain_drive.proofs.CellEnds.{ends-current}
-use Rattle.plain_drive.proofs.Dressed.{dressed, dressed_drive, holds_before, reads_before, step_reads, step_leaves, step_sectors, answer_dressed, accessed_dressed, acts_dressed, change_dressed, file_dressed, bus_dressed, block_dressed, memory_dressed, block_accessed, command_accessed, command_stepped}
+use Rattle.plain_drive.proofs.Dressed.{dressed, dressed_drive, holds_before, reads_before, due_read, step_reads, step_leaves, step_sectors, answer_dressed, accessed_dressed, acts_dressed, change_dressed, file_dressed, bus_dressed, block_dressed, memory_dressed, block_accessed, command_accessed, command_stepped}
 
 -- registers that are the same but for that byte are the same with it
 with_byte : (f g : TaskFile) → without_command g ≡ without_command f → g ≡ record f { command = g.command }
@@ -89,7 +89,9 @@ module _ (d e : Plain) (alike : IsAlike d e) where
         ∙ block_dressed byte block cells s d alike.block alike.values lawful.registers.goes_on.goes_on held;
     sectors = step_sectors s e ∙ alike.sectors ∙ sym (step_sectors s d);
     memory = ap (λ r. (step_made s r).memory) dressed_as
-        ∙ memory_dressed byte block cells s d lawful.registers.goes_on.possible alike.values;
+        ∙ memory_dressed byte block cells s d
+        (λ order done busy form more. alike.values (order.first + done)
+        (due_read d.device.file.phase order done lawful.registers.goes_on.possible busy form more));
     values = λ t read.
         let leaves_cells = step_leaves s d t read in
         ap (λ change. sector_value t (record e.device { cells = cells_after change cells }))
