@@ -30,16 +30,17 @@ pub reads_before : (a : Access) (d : Device) (t : ℕ) → gives_command a d.fil
     → reads_sector (accessed a d).file.phase t ≡ true → reads_sector d.file.phase t ≡ true
 reads_before a d t none read = grind arith
 
--- a step goes on with the order in hand
+-- the sectors that are read after a step were read before it
 pub step_reads : (s : Step) (p : Plain) (t : ℕ) → reads_sector (step_made s p).device.file.phase t ≡ true
     → reads_sector p.device.file.phase t ≡ true
 step_reads s p t read = grind arith
 
--- and changes no sector where that reads any
+-- a step after which sectors are read changes none
 pub step_leaves : (s : Step) (p : Plain) (t : ℕ) → reads_sector (step_made s p).device.file.phase t ≡ true
     → change_made s p ≡ leaves
 step_leaves s p t read = grind arith
 
+-- a step leaves how many sectors the device says it has
 pub step_sectors : (s : Step) (p : Plain) → (step_made s p).device.sectors ≡ p.device.sectors
 step_sectors s p = grind arith
 
@@ -54,33 +55,40 @@ module _ (c : ℕ) (block : List ℕ) (cells : List Cell) where
   abbrev pub dressed : Device → Device
   dressed d = record d { file = record d.file { command = c }; block = block; cells = cells }
 
-  -- and the same drive
+  -- the same drive with another byte of the last command, another block and other cells
   abbrev pub dressed_drive : Plain → Plain
   dressed_drive p = record p { device = dressed p.device }
 
+  -- answers, where a block that matters is the same
   pub answer_dressed : (a : Access) (d : Device) → (holds_block d.file.phase ≡ true → block ≡ d.block)
       → answer_to a (dressed d) ≡ answer_to a d
   answer_dressed a d same = grind arith
 
+  -- all but that byte and the block after an access
   pub accessed_dressed : (a : Access) (d : Device)
       → record (accessed a (dressed d)) { file = record (accessed a (dressed d)).file { command = 0 }; block = [] }
       ≡ record (accessed a d) { file = record (accessed a d).file { command = 0 }; block = []; cells = cells }
   accessed_dressed a d = grind arith
 
+  -- whether a step has an effect
   pub acts_dressed : (s : Step) (p : Plain) → acts s (dressed_drive p) ≡ acts s p
   acts_dressed s p = grind arith
 
+  -- what a step does to the sectors, where a block that matters is the same
   pub change_dressed : (s : Step) (p : Plain) → (holds_block p.device.file.phase ≡ true → block ≡ p.device.block)
       → change_made s (dressed_drive p) ≡ change_made s p
   change_dressed s p same = grind arith
 
+  -- registers after a step
   pub file_dressed : (s : Step) (p : Plain)
       → (step_made s (dressed_drive p)).device.file ≡ record (step_made s p).device.file { command = c }
   file_dressed s p = grind arith
 
+  -- bus master after a step
   pub bus_dressed : (s : Step) (p : Plain) → (step_made s (dressed_drive p)).device.bus ≡ (step_made s p).device.bus
   bus_dressed s p = grind arith
 
+  -- a block that matters after a step, where it and the sectors that are read were the same
   pub block_dressed : (s : Step) (p : Plain) → (holds_block p.device.file.phase ≡ true → block ≡ p.device.block)
       → ReadAlike p.device.file.phase p.device (dressed p.device)
       → position_of p.device.file.phase < position_end p.device.file.phase
@@ -88,7 +96,7 @@ module _ (c : ℕ) (block : List ℕ) (cells : List Cell) where
       → (step_made s (dressed_drive p)).device.block ≡ (step_made s p).device.block
   block_dressed s p same values below held = grind arith
 
-  -- memory, where the sector that a read by the bus master gives next is the same
+  -- memory after a sector of a read by the bus master, where that has the same value
   given_dressed : (order : Request) (done : ℕ) (p : Plain) (more : Bool)
       → (more ≡ true
       → sector_value (order.first + done) (dressed p.device) ≡ sector_value (order.first + done) p.device)
@@ -120,6 +128,7 @@ module _ (c : ℕ) (block : List ℕ) (cells : List Cell) where
   stepped_dressed (Busy (Bad reason) done) p same = refl
   stepped_dressed (Busy (Good order) done) p same = proceeded_dressed order.form order done p (same order done refl)
 
+  -- memory after a step, where the sector that the bus master gives next has the same value
   pub memory_dressed : (s : Step) (p : Plain)
       → ((order : Request) (done : ℕ) → p.device.file.phase ≡ Busy (Good order) done
       → order.form ≡ DmaIn → nat_lt done order.count ≡ true
@@ -128,12 +137,12 @@ module _ (c : ℕ) (block : List ℕ) (cells : List Cell) where
   memory_dressed step.Good p same = stepped_dressed p.device.file.phase p same
   memory_dressed step.Bad p same = grind arith
 
--- an access does the same to a block that is the same
+-- an access does the same to the block where only byte and cells are others
 pub block_accessed : (c : ℕ) (cells : List Cell) (a : Access) (d : Device)
     → (accessed a (dressed c d.block cells d)).block ≡ (accessed a d).block
 block_accessed c cells a d = grind arith
 
--- another byte of the last command alone
+-- an access where the byte of the last command alone is another
 pub command_accessed : (c : ℕ) (a : Access) (d : Device)
     → record (accessed a (dressed c d.block d.cells d)) {
       file = record (accessed a (dressed c d.block d.cells d)).file { command = 0 };
@@ -141,6 +150,7 @@ pub command_accessed : (c : ℕ) (a : Access) (d : Device)
     ≡ record (accessed a d) { file = record (accessed a d).file { command = 0 } }
 command_accessed c a d = grind arith
 
+-- a step where the byte of the last command alone is another
 pub command_stepped : (c : ℕ) (s : Step) (p : Plain)
     → step_made s (dressed_drive c p.device.block p.device.cells p)
     ≡ record (step_made s p) {

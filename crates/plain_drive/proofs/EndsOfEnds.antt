@@ -30,7 +30,7 @@ ends-ends (end ∷ newest) (cell ∷ newer) (whole ∷ wholes) first second = (
   ends-ends newest newer wholes first.1 second.1,
 )
 
--- a value is written to both
+-- ends of cells after the same write to both
 pub ends-appended : (s : ℕ) (value : List ℕ) (cells wholes : List Cell) → AreEndsOf cells wholes
     → AreEndsOf (appended s value cells) (appended s value wholes)
 ends-appended s value [] [] ends = ends
@@ -41,7 +41,7 @@ ends-appended zero value (cell ∷ cells) (whole ∷ wholes) ends =
 ends-appended (suc s) value (cell ∷ cells) (whole ∷ wholes) ends =
     (ends.0, ends-appended s value cells wholes ends.1)
 
--- both are flushed
+-- ends of cells after a flush of both
 pub ends-flushed : (cells wholes : List Cell) → AreEndsOf cells wholes
     → AreEndsOf (all_flushed cells) (all_flushed wholes)
 ends-flushed [] [] ends = ends
@@ -52,13 +52,14 @@ ends-flushed (cell ∷ cells) (whole ∷ wholes) ends = (
   ends-flushed cells wholes ends.1,
 )
 
--- there are as many, and each has values of its whole alone
+-- ends of cells are as many
 ends-length : (cells wholes : List Cell) → AreEndsOf cells wholes → length cells ≡ length wholes
 ends-length [] [] ends = refl
 ends-length [] (whole ∷ wholes) ends = absurd ends
 ends-length (cell ∷ cells) [] ends = absurd ends
 ends-length (cell ∷ cells) (whole ∷ wholes) ends = ap suc (ends-length cells wholes ends.1)
 
+-- ends of cells have no value besides
 ends-values : (cells wholes : List Cell) (s : ℕ) (value : List ℕ) → AreEndsOf cells wholes
     → Contains (values (cell_at s cells)) value → Contains (values (cell_at s wholes)) value
 ends-values [] [] s value ends held = held

@@ -74,12 +74,12 @@ module _ (d e : Plain) (alike : IsAlike d e) where
             ∙ ap (λ c. sector_value t (record d.device { cells = c })) (sym (accessed-cells a d.device));
       }
 
-  -- any other than one that gives a command
+  -- an access that gives no command
   pub accessed_on_alike : (a : Access) → gives_command a d.device.file ≡ false
       → IsAlike (after_access a d) (after_access a e)
   accessed_on_alike a none = accessed_alike a (λ t read. alike.values t (reads_before a d.device t none read))
 
-  -- a step
+  -- a step of both
   pub step_alike : (s : Step) → IsLawful d.device → IsAlike (step_made s d) (step_made s e)
   step_alike s lawful = record {
     file = ap (λ r. without_command (step_made s r).device.file) dressed_as
@@ -101,7 +101,7 @@ module _ (d e : Plain) (alike : IsAlike d e) where
         (sym leaves_cells);
   }
 
-  -- one lets older values go
+  -- the first lets older values of its sectors go
   pub destage_alike : (new : Plain) → HasLetGo d new → IsAlike new e
   destage_alike new gone = subst (λ r. IsAlike r e) (sym gone.after) (record {
     file = alike.file;
@@ -112,14 +112,14 @@ module _ (d e : Plain) (alike : IsAlike d e) where
     values = λ t read. alike.values t read ∙ sym (ends-current new.device.cells d.device.cells t gone.cells);
   })
 
--- a step at which one lets older values go
+-- a step of both, in which the first lets older values of its sectors go
 pub let_go_alike : (s : Step) (answer : Stepped) (d e new : Plain) → IsLawful d.device → IsAlike d e
     → HasStepped s answer d new → IsAlike new (step_made s e)
 let_go_alike s answer d e new lawful alike made =
     destage_alike (step_made s d) (step_made s e) (step_alike d e alike s lawful) new
     (record { after = made.after; cells = made.cells })
 
--- each drive is like itself, and one that another is like is like that
+-- each drive is like itself
 pub alike_itself : (d : Plain) → IsAlike d d
 alike_itself d = record {
   file = refl;
@@ -130,6 +130,7 @@ alike_itself d = record {
   values = λ t read. refl;
 }
 
+-- likeness goes both ways
 pub alike_back : (d e : Plain) → IsAlike d e → IsAlike e d
 alike_back d e alike =
     let phases = ap (λ (f : TaskFile). f.phase) alike.file in

@@ -10,6 +10,7 @@ use Rattle.plain_drive.specs.Seen.{HasStepped, HasLetGo, HasCut, durables}
 use Rattle.plain_drive.proofs.CellEnds.{changed_ends, destaged_ends, no_entries-stored}
 use Rattle.plain_drive.proofs.EndsOfEnds.{ends-same}
 
+-- the durable values of the cells are those that the drive keeps
 durables-kept : (n : ℕ) (entries : List Entry) (durable : List (List ℕ))
     → durables (cells_from n entries durable) ≡ durable
 durables-kept n entries [] = refl

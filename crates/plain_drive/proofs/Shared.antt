@@ -13,30 +13,30 @@ use Rattle.plain_drive.proofs.Dressed.{answer_dressed, acts_dressed, change_dres
 abbrev pub celled : List Cell → Device → Device
 celled cells d = record d { cells = cells }
 
--- an access leaves other cells, and does the same
+-- an access does the same where cells alone are others, and leaves these
 pub accessed_shared : (cells : List Cell) (a : Access) (d : Device)
     → accessed a (celled cells d) ≡ celled cells (accessed a d)
 accessed_shared cells a d = grind arith
 
--- and answers the same
+-- an access has the same answer where cells alone are others
 pub answer_shared : (cells : List Cell) (a : Access) (d : Device) → answer_to a (celled cells d) ≡ answer_to a d
 answer_shared cells a d = answer_dressed d.file.command d.block cells a d (λ held. refl)
 
--- whether a step has an effect
+-- a step has an effect or none whatever the cells are
 pub acts_shared : (cells : List Cell) (s : Step) (p : Plain) → acts s (with_cells cells p) ≡ acts s p
 acts_shared cells s p = acts_dressed p.device.file.command p.device.block cells s p
 
--- what a step changes
+-- a step makes the same change whatever the cells are
 pub change_shared : (cells : List Cell) (s : Step) (p : Plain) → change_made s (with_cells cells p) ≡ change_made s p
 change_shared cells s p = change_dressed p.device.file.command p.device.block cells s p (λ held. refl)
 
--- steps that go well look at the current value of a sector
+-- cells with the same current values
 module _ (cells : List Cell) (p : Plain) (same : (s : ℕ)
     → current (slice_index_or cells s (settled [])) ≡ sector_value s p.device) where
   block_shared : (s : Step) → (step_made s (with_cells cells p)).device.block ≡ (step_made s p).device.block
   block_shared s = grind arith
 
-  -- so each step does the same, but for its change of the sectors
+  -- each step does the same, but that its change is made to the other cells
   pub step_shared : (s : Step) → step_made s (with_cells cells p) ≡ with_cells (cells_after (change_made s p) cells)
       (step_made s p)
   step_shared s =

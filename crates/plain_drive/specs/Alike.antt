@@ -24,7 +24,7 @@ use Rattle.plain_drive.specs.Plain.{Plain, sector_value}
 abbrev pub without_command : TaskFile → TaskFile
 without_command f = record f { command = 0 }
 
--- a drive but for that byte
+-- a drive but for the byte of the last command
 abbrev pub beside_command : Plain → Plain
 beside_command p = record p { device = record p.device { file = without_command p.device.file } }
 
