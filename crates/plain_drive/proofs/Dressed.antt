@@ -18,12 +18,12 @@ use Rattle.bm_dma.specs.Move.{outcome, places_next, memory_after}
 use Rattle.plain_drive.specs.Plain.{Plain, sector_value}
 use Rattle.plain_drive.specs.Change.{leaves, change_made}
 use Rattle.plain_drive.specs.Step.{acts, step_made, stepped, proceeded, sector_given, transferred}
-use Rattle.plain_drive.specs.Alike.{holds_block, reads_sector, gives_command, ReadAlike}
+use Rattle.plain_drive.specs.Alike.{block_matters, reads_sector, gives_command, ReadAlike}
 
 -- a block matters after an access where it did before
-pub holds_before : (a : Access) (d : Device) → holds_block (accessed a d).file.phase ≡ true
-    → holds_block d.file.phase ≡ true
-holds_before a d held = grind arith
+pub matters_before : (a : Access) (d : Device) → block_matters (accessed a d).file.phase ≡ true
+    → block_matters d.file.phase ≡ true
+matters_before a d held = grind arith
 
 -- without a new command the sectors that are read were read before
 pub reads_before : (a : Access) (d : Device) (t : ℕ) → gives_command a d.file ≡ false
@@ -60,7 +60,7 @@ module _ (c : ℕ) (block : List ℕ) (cells : List Cell) where
   dressed_drive p = record p { device = dressed p.device }
 
   -- answers, where a block that matters is the same
-  pub answer_dressed : (a : Access) (d : Device) → (holds_block d.file.phase ≡ true → block ≡ d.block)
+  pub answer_dressed : (a : Access) (d : Device) → (block_matters d.file.phase ≡ true → block ≡ d.block)
       → answer_to a (dressed d) ≡ answer_to a d
   answer_dressed a d same = grind arith
 
@@ -75,7 +75,7 @@ module _ (c : ℕ) (block : List ℕ) (cells : List Cell) where
   acts_dressed s p = grind arith
 
   -- what a step does to the sectors, where a block that matters is the same
-  pub change_dressed : (s : Step) (p : Plain) → (holds_block p.device.file.phase ≡ true → block ≡ p.device.block)
+  pub change_dressed : (s : Step) (p : Plain) → (block_matters p.device.file.phase ≡ true → block ≡ p.device.block)
       → change_made s (dressed_drive p) ≡ change_made s p
   change_dressed s p same = grind arith
 
@@ -89,10 +89,10 @@ module _ (c : ℕ) (block : List ℕ) (cells : List Cell) where
   bus_dressed s p = grind arith
 
   -- a block that matters after a step, where it and the sectors that are read were the same
-  pub block_dressed : (s : Step) (p : Plain) → (holds_block p.device.file.phase ≡ true → block ≡ p.device.block)
+  pub block_dressed : (s : Step) (p : Plain) → (block_matters p.device.file.phase ≡ true → block ≡ p.device.block)
       → ReadAlike p.device.file.phase p.device (dressed p.device)
       → position_of p.device.file.phase < position_end p.device.file.phase
-      → holds_block (step_made s p).device.file.phase ≡ true
+      → block_matters (step_made s p).device.file.phase ≡ true
       → (step_made s (dressed_drive p)).device.block ≡ (step_made s p).device.block
   block_dressed s p same values below held = grind arith
 

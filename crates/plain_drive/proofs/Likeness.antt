@@ -12,9 +12,9 @@ use Rattle.plain_drive.specs.Plain.{Plain, sector_value}
 use Rattle.plain_drive.specs.Change.{change_made, cells_after}
 use Rattle.plain_drive.specs.Step.{acts, step_made}
 use Rattle.plain_drive.specs.Seen.{HasStepped, HasLetGo}
-use Rattle.plain_drive.specs.Alike.{IsAlike, ReadAlike, without_command, beside_command, holds_block, reads_sector, after_access, gives_command}
+use Rattle.plain_drive.specs.Alike.{IsAlike, ReadAlike, without_command, beside_command, block_matters, reads_sector, after_access, gives_command}
 use Rattle.plain_drive.proofs.CellEnds.{ends-current}
-use Rattle.plain_drive.proofs.Dressed.{dressed, dressed_drive, holds_before, reads_before, due_read, step_reads, step_leaves, step_sectors, answer_dressed, accessed_dressed, acts_dressed, change_dressed, file_dressed, bus_dressed, block_dressed, memory_dressed, block_accessed, command_accessed, command_stepped}
+use Rattle.plain_drive.proofs.Dressed.{dressed, dressed_drive, matters_before, reads_before, due_read, step_reads, step_leaves, step_sectors, answer_dressed, accessed_dressed, acts_dressed, change_dressed, file_dressed, bus_dressed, block_dressed, memory_dressed, block_accessed, command_accessed, command_stepped}
 
 -- registers that are the same but for that byte are the same with it
 with_byte : (f g : TaskFile) → without_command g ≡ without_command f → g ≡ record f { command = g.command }
@@ -64,7 +64,7 @@ module _ (d e : Plain) (alike : IsAlike d e) where
         bus = ap (λ r. (after r).bus) dressed_as ∙ ap (λ (r : Device). r.bus) worn;
         block = λ held. ap (λ r. (after r).block) dressed_as
             ∙ ap (λ words. (accessed a (dressed byte words cells d.device)).block)
-            (alike.block (holds_before a d.device held))
+            (alike.block (matters_before a d.device held))
             ∙ block_accessed byte cells a d.device;
         sectors = ap (λ r. (after r).sectors) dressed_as ∙ ap (λ (r : Device). r.sectors) worn;
         memory = alike.memory;
@@ -137,7 +137,7 @@ alike_back d e alike =
     record {
       file = sym alike.file;
       bus = sym alike.bus;
-      block = λ held. sym (alike.block (subst (λ phase. holds_block phase ≡ true) phases held));
+      block = λ held. sym (alike.block (subst (λ phase. block_matters phase ≡ true) phases held));
       sectors = sym alike.sectors;
       memory = sym alike.memory;
       values = λ t read. sym (alike.values t (subst (λ phase. reads_sector phase t ≡ true) phases read));

@@ -29,12 +29,12 @@ abbrev pub beside_command : Plain → Plain
 beside_command p = record p { device = record p.device { file = without_command p.device.file } }
 
 -- the words of the block matter: a block is in transfer, or came whole and isn't written yet (own)
-abbrev pub holds_block : Phase → Bool
-holds_block Reset = false
-holds_block Idle = false
-holds_block (Busy (Good order) done) = takes_words order.form && not (done == 0)
-holds_block (Busy (Bad reason) done) = false
-holds_block (Ready taken done left) = true
+abbrev pub block_matters : Phase → Bool
+block_matters Reset = false
+block_matters Idle = false
+block_matters (Busy (Good order) done) = takes_words order.form && not (done == 0)
+block_matters (Busy (Bad reason) done) = false
+block_matters (Ready taken done left) = true
 
 -- a way in which data comes out of the drive (ATA/ATAPI-6, PIO data-in and DMA)
 abbrev pub gives_data : Form → Bool
@@ -78,7 +78,7 @@ ReadAlike phase d e = (s : ℕ) → reads_sector phase s ≡ true → sector_val
 pub record IsAlike (d e : Plain) : Type 0 where
   pub file : without_command e.device.file ≡ without_command d.device.file
   pub bus : e.device.bus ≡ d.device.bus
-  pub block : holds_block d.device.file.phase ≡ true → e.device.block ≡ d.device.block
+  pub block : block_matters d.device.file.phase ≡ true → e.device.block ≡ d.device.block
   pub sectors : e.device.sectors ≡ d.device.sectors
   pub memory : e.memory ≡ d.memory
   pub values : ReadAlike d.device.file.phase d.device e.device
@@ -87,17 +87,17 @@ pub record IsAlike (d e : Plain) : Type 0 where
 abbrev pub after_access : Access → Plain → Plain
 after_access a p = record p { device = accessed a p.device }
 
--- a write that gave a command
-abbrev pub is_command : Wrote → Bool
-is_command Stored = false
-is_command Ignored = false
-is_command (Command byte) = true
-is_command ResetBegun = false
+-- a write by which the drive took a command
+abbrev pub took_command : Wrote → Bool
+took_command Stored = false
+took_command Ignored = false
+took_command (Command byte) = true
+took_command ResetBegun = false
 
 -- an access by which the drive takes a command
 abbrev pub gives_command : Access → TaskFile → Bool
 gives_command (access.Read8 r) f = false
-gives_command (access.Write8 r v) f = is_command (wrote r v f)
+gives_command (access.Write8 r v) f = took_command (wrote r v f)
 gives_command access.ReadWord f = false
 gives_command (access.WriteWord w) f = false
 gives_command access.ReadPointer f = false
