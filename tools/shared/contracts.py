@@ -1,7 +1,7 @@
 """The public calls of the crates with the labels of their clauses, read from the sources.
 
-A call is public where its crate's `lib.rt` shows it: a function, a method of a type, a call of a trait, or a call that a
-type has from a trait of the repository.
+A call is public where its crate's `lib.rt` shows it: a function, a method of a type, a call of a trait, or a call that
+a type has from a trait of the repository.
 """
 import re
 from pathlib import Path
@@ -128,7 +128,8 @@ class Crate:
                 continue
             used = re.match(r"pub\s+use\s+(.*)", item.head, re.S)
             inner = re.fullmatch(r"pub\s+mod\s+(\w+)", item.head)
-            declared = re.match(r"pub\s+(?:const\s+|unsafe\s+)*(?:fn|struct|enum|trait|type|const|static)\s+(\w+)", item.head)
+            kinds = "fn|struct|enum|trait|type|const|static"
+            declared = re.match(rf"pub\s+(?:const\s+|unsafe\s+)*(?:{kinds})\s+(\w+)", item.head)
             if used:
                 yield from self.used(module, used[1])
             elif inner:
@@ -182,7 +183,7 @@ def methods(block: Item, owner: str, trait: str, wants_pub: bool) -> Iterator[Ca
 
 
 def calls_by_crate(crates: Path) -> dict[str, list[Call]]:
-    """The public calls of each crate. A call that a type has from a trait counts where the trait is of the repository."""
+    """The public calls of each crate. One that a type has from a trait counts where the trait is of the repository."""
     found = {folder.name: Crate(folder).calls() for folder in sorted(crates.iterdir()) if (folder / "src").is_dir()}
     labels = {(call.owner, call.name): call.labels for calls in found.values() for call in calls if not call.trait}
     return {crate: list(with_inherited(calls, labels)) for crate, calls in found.items()}

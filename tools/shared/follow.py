@@ -352,7 +352,8 @@ class Drive:
             if is_read:
                 self.move_in(places, self.current(sector))
                 return f"{many(len(places), 'byte')} of sector {sector} go to memory, and the table ends: the walk too"
-            return f"the table has {many(len(places), 'byte')} for sector {sector}: nothing is written, and the walk ends"
+            room = many(len(places), "byte")
+            return f"the table has {room} for sector {sector}: nothing is written, and the walk ends"
         if is_read:
             self.move_in(places, self.current(sector))
             told = f"sector {sector} goes to memory"
