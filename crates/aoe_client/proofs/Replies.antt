@@ -2,15 +2,15 @@
 use Rattle.std.proofs.Common.{ℕ, ◌+◌, ◌≤◌, List, length, drop, ap, arith, length-drop}
 use Rattle.aoe_frame.specs.declared.message.Argument.{Argument}
 use Rattle.aoe_frame.specs.declared.message.Argument.TheVariants.{Ata, Config, Other}
-use Rattle.aoe_frame.specs.declared.message.TheConstants.{BODY_AT}
+use Rattle.aoe_frame.specs.declared.message.TheConstants.{ATA_BYTES, BODY_AT, HEADER_BYTES}
 use Rattle.aoe_frame.specs.Layout.{HasArgument}
 use Rattle.aoe_client.specs.declared.tags.TheConstants.{PART_BYTES}
 use Rattle.aoe_client.specs.Messages.{Answers, IsReplyArgument}
 
-long : (bytes : List ℕ) (a : Argument) (tag : ℕ) → HasArgument (drop 24 bytes) a → IsReplyArgument a tag
+long : (bytes : List ℕ) (a : Argument) (tag : ℕ) → HasArgument (drop HEADER_BYTES bytes) a → IsReplyArgument a tag
     → BODY_AT + PART_BYTES ≤ length bytes
 long bytes (Ata a) tag has read =
-    omega (arith, read.body, ap length has.2, length-drop 12 (drop 24 bytes), length-drop 24 bytes)
+    omega (arith, read.body, ap length has.2, length-drop ATA_BYTES (drop HEADER_BYTES bytes), length-drop HEADER_BYTES bytes)
 long bytes (Config a) tag has read = absurd read
 long bytes Other tag has read = absurd read
 

@@ -3,7 +3,7 @@ use Rattle.std.proofs.Common.{◌≡◌, ℕ, zero, suc, ◌+◌, ◌^◌, ◌<�
 use Rattle.std.proofs.lemmas.List.{take_at, drop_at, drop-take}
 use Rattle.byteorder.specs.Endian.{big_bytes, little_bytes, big_from, little_from}
 use Rattle.byteorder.specs.Numbers.{big_number-reads_back, little_number-reads_back}
-use Rattle.aoe_frame.specs.declared.message.TheConstants.{ETHER_TYPE}
+use Rattle.aoe_frame.specs.declared.message.TheConstants.{CONFIG_BYTES, ETHER_TYPE, HEADER_BYTES, TYPE_AT}
 use Rattle.aoe_frame.specs.declared.message.Header.{Header}
 use Rattle.aoe_frame.specs.declared.message.AtaPart.{AtaPart}
 use Rattle.aoe_frame.specs.declared.message.ConfigPart.{ConfigPart}
@@ -134,25 +134,25 @@ one_message bytes a b says_a says_b =
     let headers = one_header bytes a.header b.header says_a.header says_b.header in
     let of_b : IsArgumentOf a.header.command b.argument = subst (λ (h : Header). IsArgumentOf h.command b.argument)
     (sym headers) says_b.kind in
-    let arguments = same_argument (drop 24 bytes) a.header.command a.argument b.argument says_a.kind of_b
+    let arguments = same_argument (drop HEADER_BYTES bytes) a.header.command a.argument b.argument says_a.kind of_b
     says_a.argument says_b.argument says_a.fits says_b.fits in
     λ i. record { header = headers i; argument = arguments i }
 
 -- a header has 24 bytes
-pub length-header_bytes : (h : Header) → length h.dest ≡ 6 → length h.source ≡ 6 → length (header_bytes h) ≡ 24
+pub length-header_bytes : (h : Header) → length h.dest ≡ 6 → length h.source ≡ 6 → length (header_bytes h) ≡ HEADER_BYTES
 length-header_bytes h dest source = simp (length-append, dest, source)
 
 -- bytes with a header are as many as it has
-pub header_long : (bytes : List ℕ) (h : Header) → HasFrameHeader bytes h → 24 ≤ length bytes
+pub header_long : (bytes : List ℕ) (h : Header) → HasFrameHeader bytes h → HEADER_BYTES ≤ length bytes
 header_long bytes h has = omega (
   arith,
   ap length has.laid,
   length-header_bytes h has.fits.dest
       has.fits.source,
-  length-take 24 bytes,
+  length-take HEADER_BYTES bytes,
 )
 
-take_fewer : (xs : List ℕ) → take 2 (take 12 xs) ≡ take 2 xs
+take_fewer : (xs : List ℕ) → take 2 (take TYPE_AT xs) ≡ take 2 xs
 take_fewer [] = refl
 take_fewer (x ∷ []) = refl
 take_fewer (x ∷ (y ∷ xs)) = refl
@@ -161,19 +161,19 @@ take_fewer (x ∷ (y ∷ xs)) = refl
 pub header_type : (bytes : List ℕ) (h : Header) → HasFrameHeader bytes h → IsAoe bytes
 unfolding behind
 header_type bytes h has =
-    let left : drop 12 (take 24 bytes) ≡ take 12 (drop 12 bytes) = drop-take 12 12 bytes in
-    let addresses : length (h.dest ++ h.source) ≡ 12 = simp (length-append, has.fits.dest, has.fits.source) refl in
+    let left : drop TYPE_AT (take HEADER_BYTES bytes) ≡ take TYPE_AT (drop TYPE_AT bytes) = drop-take TYPE_AT TYPE_AT bytes in
+    let addresses : length (h.dest ++ h.source) ≡ TYPE_AT = simp (length-append, has.fits.dest, has.fits.source) refl in
     let apart : header_bytes h ≡ (h.dest ++ h.source) ++ behind h = laid_apart h
     ∙ sym (append_assoc h.dest h.source (behind h)) in
-    let right : drop 12 (header_bytes h) ≡ behind h = ap (drop 12) apart ∙ drop_at (h.dest ++ h.source)
-    (behind h) 12 addresses in
-    sym (take_fewer (drop 12 bytes)) ∙ ap (take 2) (sym left ∙ ap (drop 12) has.laid ∙ right)
+    let right : drop TYPE_AT (header_bytes h) ≡ behind h = ap (drop TYPE_AT) apart ∙ drop_at (h.dest ++ h.source)
+    (behind h) TYPE_AT addresses in
+    sym (take_fewer (drop TYPE_AT bytes)) ∙ ap (take 2) (sym left ∙ ap (drop TYPE_AT) has.laid ∙ right)
 
 -- bytes behind a header that have an argument are as many as it needs
 pub argument_long : (bytes : List ℕ) (command : ℕ) (a : Argument) → IsArgumentOf command a → HasArgument bytes a
-    → bytes_needed command ≤ 24 + length bytes
+    → bytes_needed command ≤ HEADER_BYTES + length bytes
 argument_long bytes command (Ata a) of has = rw of (omega (arith, has.1))
-argument_long bytes command (Config c) of has = rw of (omega (arith, ap length has, length-take 8 bytes))
+argument_long bytes command (Config c) of has = rw of (omega (arith, ap length has, length-take CONFIG_BYTES bytes))
 argument_long bytes zero Other of has = absurd (of.0 refl)
 argument_long bytes (suc zero) Other of has = absurd (of.1 refl)
 argument_long bytes (suc (suc n)) Other of has = omega arith

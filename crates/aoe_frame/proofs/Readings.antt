@@ -1,6 +1,6 @@
 -- A frame has one reading.
 use Rattle.std.proofs.Common.{◌≡◌, ℕ, ◌+◌, ◌<◌, ◌≤◌, List, length, drop, Result, Ok, Err, arith, refl, sym, ap, ◌∙◌, subst, length-drop}
-use Rattle.aoe_frame.specs.declared.message.TheConstants.{VERSION}
+use Rattle.aoe_frame.specs.declared.message.TheConstants.{HEADER_BYTES, VERSION}
 use Rattle.aoe_frame.specs.declared.message.Header.{Header}
 use Rattle.aoe_frame.specs.declared.message.Argument.{Argument}
 use Rattle.aoe_frame.specs.declared.message.Aoe.{Aoe}
@@ -28,8 +28,8 @@ not_short bytes h has whole (InArgument cut has_cut version below) =
 message_long : (bytes : List ℕ) (m : Aoe) → SaysMessage bytes m → bytes_needed m.header.command ≤ length bytes
 message_long bytes m says =
     let long = header_long bytes m.header says.header in
-    let behind = argument_long (drop 24 bytes) m.header.command m.argument says.kind says.argument in
-    omega (arith, length-drop 24 bytes)
+    let behind = argument_long (drop HEADER_BYTES bytes) m.header.command m.argument says.kind says.argument in
+    omega (arith, length-drop HEADER_BYTES bytes)
 
 -- a message is no other answer's
 not_fault : (bytes : List ℕ) (m : Aoe) (fault : FrameFault) → IsMessage bytes m → IsReading bytes (Err fault) → ⊥
@@ -72,7 +72,7 @@ reads_exactly bytes answer a reads = (λ is. subst (IsReading bytes) is reads, o
 
 -- a header and an argument are a message
 pub read_whole : (bytes : List ℕ) (h : Header) (a : Argument) → HasFrameHeader bytes h → h.version ≡ VERSION
-    → IsArgumentOf h.command a × HasArgument (drop 24 bytes) a × ArgumentFits a
+    → IsArgumentOf h.command a × HasArgument (drop HEADER_BYTES bytes) a × ArgumentFits a
     → IsMessage bytes (record { header = h; argument = a })
 read_whole bytes h a has spoken parts = record {
   says = record { header = has; kind = parts.0; argument = parts.1; fits = parts.2 };
@@ -81,5 +81,5 @@ read_whole bytes h a has spoken parts = record {
 
 -- a header with a part of its argument is too short
 pub read_cut : (bytes : List ℕ) (h : Header) → HasFrameHeader bytes h → h.version ≡ VERSION
-    → 24 + length (drop 24 bytes) < bytes_needed h.command → IsShort bytes
-read_cut bytes h has spoken few = InArgument h has spoken (omega (arith, length-drop 24 bytes))
+    → HEADER_BYTES + length (drop HEADER_BYTES bytes) < bytes_needed h.command → IsShort bytes
+read_cut bytes h has spoken few = InArgument h has spoken (omega (arith, length-drop HEADER_BYTES bytes))

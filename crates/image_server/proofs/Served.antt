@@ -1,5 +1,7 @@
 -- The answer to an ATA argument over an image, and what a served frame was read as.
 use Rattle.std.proofs.Common.{◌≡◌, ℕ, ◌+◌, ◌*◌, ◌≤◌, ◌<◌, List, length, Option, Result, Ok, Err, IfOk, OnErr, option_map, arith, sym, ap, ◌∙◌, subst}
+use Rattle.image_server.specs.declared.reply.TheConstants.{GOOD_STATUS, NO_ERROR}
+use Rattle.ata_taskfile.specs.declared.registers.TheConstants.{SECTOR_BYTES}
 use Rattle.std.proofs.lemmas.Bool.Decides.{nat_tests}
 use Rattle.bm_host.specs.Outside.{IfTold, bytes_at}
 use Rattle.aoe_frame.specs.declared.message.AtaPart.{AtaPart}
@@ -29,15 +31,15 @@ answer_plain sectors told a r kind asked is =
 -- an answer with sectors
 pub answer_sectors : (sectors : ℕ) (told : Option (List ℕ)) (a r : AtaPart) (body : List ℕ)
     → asked_in sectors a ≡ Sectors
-    → r ≡ answered a 0 80 body → length body ≡ 512 * a.count
-    → IfTold told (λ image. body ≡ bytes_at (512 * a.lba) (512 * a.count) image)
+    → r ≡ answered a NO_ERROR GOOD_STATUS body → length body ≡ SECTOR_BYTES * a.count
+    → IfTold told (λ image. body ≡ bytes_at (SECTOR_BYTES * a.lba) (SECTOR_BYTES * a.count) image)
     → OverImage sectors told (λ image. r ≡ ata_answer (asked_in sectors a) sectors image a)
 answer_sectors sectors told a r body asked is many read =
     let inside = asked_sectors sectors a asked in
-    over_map sectors told (λ image. r ≡ answered a 0 80 (bytes_at (512 * a.lba) (512 * a.count) image))
+    over_map sectors told (λ image. r ≡ answered a NO_ERROR GOOD_STATUS (bytes_at (SECTOR_BYTES * a.lba) (SECTOR_BYTES * a.count) image))
     (λ image. r ≡ ata_answer (asked_in sectors a) sectors image a)
     (λ image e. e ∙ ap (λ k. ata_answer k sectors image a) (sym asked))
-    (over_bytes sectors (512 * a.lba) (512 * a.count) told body (λ bytes. r ≡ answered a 0 80 bytes)
+    (over_bytes sectors (SECTOR_BYTES * a.lba) (SECTOR_BYTES * a.count) told body (λ bytes. r ≡ answered a NO_ERROR GOOD_STATUS bytes)
     (omega arith) many read is)
 
 -- what is answered to a reading of a frame is answered to the frame

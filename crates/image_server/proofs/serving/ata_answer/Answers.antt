@@ -1,4 +1,5 @@
 use Rattle.std.proofs.Common.{sym, ◌∙◌, ap}
+use Rattle.image_server.specs.declared.reply.TheConstants.{GOOD_STATUS, NO_ERROR}
 use Rattle.bm_host.specs.declared.Role.TheVariants.{Image}
 use Rattle.image_server.specs.declared.request.Asked.TheVariants.{Identity}
 use Rattle.image_server.specs.Reply.{answered}
@@ -17,4 +18,4 @@ returns-in-Identity-clause-answer g c =
     answer_plain c.args.sectors ((g.H.Host.outside c.args.host.now).told Image) c.args.part.now
     c.answered-in-Identity.result Identity
     (sym c.asked_in.ensures.asked ∙ c.in-Identity.is)
-    (λ image. c.answered-in-Identity.ensures.part ∙ ap (answered c.args.part.now 0 80) c.server_identity.ensures.bytes)
+    (λ image. c.answered-in-Identity.ensures.part ∙ ap (answered c.args.part.now NO_ERROR GOOD_STATUS) c.server_identity.ensures.bytes)
