@@ -1,3 +1,4 @@
 pub mod Lawfulness
 pub mod Ends
 pub mod Cells
+pub mod Reaching

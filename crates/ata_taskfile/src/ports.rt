@@ -3,6 +3,7 @@
 ghost use Rattle.std.specs.Prelude.{◌≡◌};
 ghost use Rattle.ata_taskfile.specs.Device.{Device, byte_read, after_read8, after_write8, word_read, after_read_word, after_write_word, pointer_read, after_write_pointer, line_read, is_pending, is_walking};
 ghost use Rattle.ata_taskfile.specs.Access.{answer_to, accessed};
+ghost use Rattle.ata_taskfile.specs.Accesses.{Reaches};
 ghost use Rattle.ata_taskfile.specs.Lawful.{IsLawful};
 
 use crate::{Access, Answer, Reg};
@@ -25,23 +26,31 @@ pub trait Ports {
     fn read8(&mut self, reg: Reg) -> u8
         ensures answer { result ≡ byte_read reg (device self.old) }
         ensures after { device self.new ≡ after_read8 reg (device self.old) }
-        ensures rest { rest self.new ≡ rest self.old };
+        ensures rest { rest self.new ≡ rest self.old }
+        ensures reached { (origin : Device) → Reaches origin (device self.old)
+            → Reaches origin (device self.new) };
 
     /// Writes a register.
     fn write8(&mut self, reg: Reg, v: u8)
         ensures after { device self.new ≡ after_write8 reg v (device self.old) }
-        ensures rest { rest self.new ≡ rest self.old };
+        ensures rest { rest self.new ≡ rest self.old }
+        ensures reached { (origin : Device) → Reaches origin (device self.old)
+            → Reaches origin (device self.new) };
 
     /// Reads the next word of the block that waits in Data, the sector's even byte low; FFFFh outside a transfer (own).
     fn read_word(&mut self) -> u16
         ensures answer { result ≡ word_read (device self.old) }
         ensures after { device self.new ≡ after_read_word (device self.old) }
-        ensures rest { rest self.new ≡ rest self.old };
+        ensures rest { rest self.new ≡ rest self.old }
+        ensures reached { (origin : Device) → Reaches origin (device self.old)
+            → Reaches origin (device self.new) };
 
     /// Writes the next word of the block that is wanted in Data; outside a transfer it is ignored (own).
     fn write_word(&mut self, w: u16)
         ensures after { device self.new ≡ after_write_word w (device self.old) }
-        ensures rest { rest self.new ≡ rest self.old };
+        ensures rest { rest self.new ≡ rest self.old }
+        ensures reached { (origin : Device) → Reaches origin (device self.old)
+            → Reaches origin (device self.new) };
 
     /// Reads the pointer to the descriptor table.
     fn read_pointer(&self) -> u32
@@ -50,7 +59,9 @@ pub trait Ports {
     /// Writes the pointer to the descriptor table; while start is 1 it stays (own).
     fn write_pointer(&mut self, v: u32)
         ensures after { device self.new ≡ after_write_pointer v (device self.old) }
-        ensures rest { rest self.new ≡ rest self.old };
+        ensures rest { rest self.new ≡ rest self.old }
+        ensures reached { (origin : Device) → Reaches origin (device self.old)
+            → Reaches origin (device self.new) };
 
     /// Looks at the interrupt line.
     fn line(&self) -> bool
@@ -73,6 +84,8 @@ pub fn perform<P: Ports>(ports: &mut P, access: &Access) -> Answer
     ensures answer { result ≡ answer_to access.now (P.device ports.old) }
     ensures after { P.device ports.new ≡ accessed access.now (P.device ports.old) }
     ensures rest { P.rest ports.new ≡ P.rest ports.old }
+    ensures reached { (origin : Device) → Reaches origin (P.device ports.old)
+        → Reaches origin (P.device ports.new) }
 {
     match *access {
         Access::Read8(reg) => Answer::Byte(ports.read8(reg)),
