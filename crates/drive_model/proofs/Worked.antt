@@ -25,7 +25,7 @@ use Rattle.drive_store.specs.Store.{Becomes}
 use Rattle.plain_drive.specs.Plain.{Plain, with_cells, with_registers}
 use Rattle.plain_drive.specs.Change.{Change, leaves, change_in, change_proceeded}
 use Rattle.plain_drive.specs.Physical.{Kept, Physical, cells_of, kept_after, keeping, seen, physical_step}
-use Rattle.plain_drive.specs.Step.{ended, offered, loaded, words_due, first_wanted, next_wanted, received, stepped, failed_step, proceeded, position_after}
+use Rattle.plain_drive.specs.Step.{ended, offered, loaded, words_due, first_wanted, next_wanted, received, good_step_in, bad_step_in, proceeded, position_after}
 use Rattle.drive_model.specs.Drive.{worked}
 use Rattle.drive_model.proofs.Told.{becomes_told, becomes_same, becomes_so}
 
@@ -142,8 +142,8 @@ first_becomes order done p new before after start stays wanted =
 pub refused_ends : (s : Step) (reason : Refused) (done : ℕ) (p : Physical) → p.file.phase ≡ Busy (Bad reason) done
     → worked leaves (with_registers (refused reason p.file)) p ≡ physical_step s p
 refused_ends step.Good reason done p e = ap (λ phase. keeping (kept_after (change_in phase (seen p)) p.kept)
-    (stepped phase (seen p))) (sym e)
-refused_ends step.Bad reason done p e = ap (λ phase. keeping p.kept (failed_step phase (seen p))) (sym e)
+    (good_step_in phase (seen p))) (sym e)
+refused_ends step.Bad reason done p e = ap (λ phase. keeping p.kept (bad_step_in phase (seen p))) (sym e)
 
 -- a command stands where a move of the bus master leaves it
 pub put_walk_lawful : (f : TaskFile) (b bus : Bus) (words n count : ℕ) (order : Request) (done place : ℕ)

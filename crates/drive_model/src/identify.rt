@@ -26,16 +26,19 @@ fn identity_word(i: u16, sectors: u64) -> u16
     ensures { result ≡ identity_word i sectors }
 {
     match i {
+        // Words 10 to 46: the serial number, the firmware revision and the model number.
         10..=19 => text_word(SERIAL_NUMBER, i - 10),
         23..=26 => text_word(FIRMWARE_REVISION, i - 23),
         27..=46 => text_word(MODEL_NUMBER, i - 27),
-        // LBA and DMA.
+        // LBA (bit 9) and DMA (bit 8).
         49 => 0x0300,
+        // Sectors in 28 bits.
         60..=61 => part_at(i - 60, sectors),
-        // The write cache, there and on.
+        // The write cache (bit 5), there and on.
         82 | 85 => 0x0020,
-        // 48-bit addresses, and FLUSH CACHE with EXT.
+        // FLUSH CACHE EXT (bit 13), FLUSH CACHE (bit 12) and 48-bit addresses (bit 10); bit 14 is 1.
         83 => 0x7400,
+        // Sectors in 48 bits.
         100..=103 => part_at(i - 100, sectors),
         _ => 0,
     }

@@ -10,7 +10,7 @@ ghost use Rattle.ata_taskfile.specs.Data.{moves_by_bus};
 ghost use Rattle.drive_store.specs.Store.{Counted};
 ghost use Rattle.plain_drive.specs.Change.{leaves, change_without_data, change_proceeded};
 ghost use Rattle.plain_drive.specs.Physical.{seen, physical_step};
-ghost use Rattle.plain_drive.specs.Step.{stepped, acts, acts_in, stepped_if, proceeded, proceeds, ended};
+ghost use Rattle.plain_drive.specs.Step.{good_step_in, acts, acts_in, stepped_if, proceeded, proceeds, ended};
 ghost use Rattle.drive_model.specs.CachedStore.{CallsStore};
 ghost use Rattle.drive_model.specs.Drive.{IfTold, count_of, faults_of, physical_of, rest_of, worked};
 
@@ -88,7 +88,7 @@ impl<S: Store> Drive<S> {
     fn end_reset(&mut self) -> Stepped
         requires { self.old.file.phase ≡ Phase.Reset }
         ensures after { (memory : List ℕ) → physical_of self.new memory
-            ≡ worked leaves (stepped Phase.Reset) (physical_of self.old memory) }
+            ≡ worked leaves (good_step_in Phase.Reset) (physical_of self.old memory) }
         ensures sectors { self.new.sectors ≡ self.old.sectors }
         ensures answer { (memory : List ℕ) →
             result ≡ stepped_if

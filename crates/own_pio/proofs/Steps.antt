@@ -13,7 +13,7 @@ use Rattle.ata_taskfile.specs.TaskFile.{has_bit}
 use Rattle.ata_taskfile.specs.Lawful.{IsLawful}
 use Rattle.plain_drive.specs.Plain.{Plain, with_cells}
 use Rattle.plain_drive.specs.Change.{cells_after, change_in}
-use Rattle.plain_drive.specs.Step.{stepped, failed_step, step_made}
+use Rattle.plain_drive.specs.Step.{good_step_in, bad_step_in, step_made}
 use Rattle.own_pio.specs.declared.job.OwnJob.{OwnJob}
 use Rattle.own_pio.specs.declared.job.OwnJob.TheVariants.{Read, Write, Flush}
 use Rattle.own_pio.specs.Job.{IsFit, job_request, job_order}
@@ -21,11 +21,11 @@ use Rattle.own_pio.specs.Running.{IsRunning, StandsIn}
 
 -- a good step from a phase, with what it does to the sectors
 abbrev pub gone : Phase → Plain → Plain
-gone phase p = with_cells (cells_after (change_in phase p) p.device.cells) (stepped phase p)
+gone phase p = with_cells (cells_after (change_in phase p) p.device.cells) (good_step_in phase p)
 
 -- a failing step from a phase, which leaves the sectors
 abbrev pub gave_up : Phase → Plain → Plain
-gave_up phase p = with_cells p.device.cells (failed_step phase p)
+gave_up phase p = with_cells p.device.cells (bad_step_in phase p)
 
 -- an order of a job that isn't refused is its request
 pub good_order : (job : OwnJob) (order : Request) (sectors : ℕ) → Good order ≡ job_order job sectors

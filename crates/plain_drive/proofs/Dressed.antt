@@ -17,7 +17,7 @@ use Rattle.ata_taskfile.specs.Lawful.{position_of, position_end, has_possible_or
 use Rattle.bm_dma.specs.Move.{outcome, places_next, memory_after}
 use Rattle.plain_drive.specs.Plain.{Plain, sector_value}
 use Rattle.plain_drive.specs.Change.{leaves, change_made}
-use Rattle.plain_drive.specs.Step.{acts, step_made, stepped, proceeded, sector_given, transferred}
+use Rattle.plain_drive.specs.Step.{acts, step_made, good_step_in, proceeded, sector_given, transferred}
 use Rattle.plain_drive.specs.Alike.{block_matters, reads_sector, gives_command, ReadAlike}
 
 -- a block matters after an access where it did before
@@ -121,7 +121,7 @@ module _ (c : ℕ) (block : List ℕ) (cells : List Cell) where
       → ((order : Request) (done : ℕ) → phase ≡ Busy (Good order) done
       → order.form ≡ DmaIn → nat_lt done order.count ≡ true
       → sector_value (order.first + done) (dressed p.device) ≡ sector_value (order.first + done) p.device)
-      → (stepped phase (dressed_drive p)).memory ≡ (stepped phase p).memory
+      → (good_step_in phase (dressed_drive p)).memory ≡ (good_step_in phase p).memory
   stepped_dressed Reset p same = grind arith
   stepped_dressed Idle p same = refl
   stepped_dressed (Ready taken done left) p same = refl

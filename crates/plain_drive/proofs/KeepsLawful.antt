@@ -22,7 +22,7 @@ use Rattle.ata_taskfile.proofs.Lawfulness.{raised_lawful}
 use Rattle.ata_taskfile.proofs.Ends.{waiting_block_lawful, is_due, reset_ended_lawful, refused_lawful}
 use Rattle.plain_drive.specs.Plain.{Plain, with_registers, with_block, sector_value}
 use Rattle.plain_drive.specs.Laws.{HasWholeSectors}
-use Rattle.plain_drive.specs.Step.{words_due, offered, ended, next_wanted, first_wanted, walked, sector_given, transferred, proceeded, stepped, failed_step, failure_shown, failure_bit, step_made}
+use Rattle.plain_drive.specs.Step.{words_due, offered, ended, next_wanted, first_wanted, walked, sector_given, transferred, proceeded, good_step_in, bad_step_in, failure_shown, failure_bit, step_made}
 use Rattle.plain_drive.proofs.Words.{identity-length}
 use Rattle.plain_drive.proofs.Blocks.{length_words}
 use Rattle.plain_drive.proofs.Ends.{ended_lawful, transferred_lawful, walked_lawful, wanted_lawful, first_wanted_lawful, given_up_lawful}
@@ -129,24 +129,24 @@ refused-lawful reason done p e l =
     registers_lawful (refused reason p.device.file) p (refused_lawful reason p.device.file p.device.bus
     (length p.device.block) p.device.sectors (rw e refl) (rw e refl) l)
 
-stepped-lawful : (phase : Phase) (p : Plain) → p.device.file.phase ≡ phase → HasWholeSectors p.device
-    → IsLawful p.device → IsLawful (stepped phase p).device
-stepped-lawful Reset p e whole l = reset-lawful p e l (holds_reset p.device.file) refl
-stepped-lawful Idle p e whole l = l
-stepped-lawful (Ready taken done left) p e whole l = l
-stepped-lawful (Busy (Bad reason) done) p e whole l = refused-lawful reason done p e l
-stepped-lawful (Busy (Good order) done) p e whole l = proceeded-lawful order done p e l order.form refl whole
+good_step_in-lawful : (phase : Phase) (p : Plain) → p.device.file.phase ≡ phase → HasWholeSectors p.device
+    → IsLawful p.device → IsLawful (good_step_in phase p).device
+good_step_in-lawful Reset p e whole l = reset-lawful p e l (holds_reset p.device.file) refl
+good_step_in-lawful Idle p e whole l = l
+good_step_in-lawful (Ready taken done left) p e whole l = l
+good_step_in-lawful (Busy (Bad reason) done) p e whole l = refused-lawful reason done p e l
+good_step_in-lawful (Busy (Good order) done) p e whole l = proceeded-lawful order done p e l order.form refl whole
 
-failed_step-lawful : (phase : Phase) (p : Plain) → p.device.file.phase ≡ phase → IsLawful p.device
-    → IsLawful (failed_step phase p).device
-failed_step-lawful Reset p e l = l
-failed_step-lawful Idle p e l = l
-failed_step-lawful (Ready taken done left) p e l = l
-failed_step-lawful (Busy (Bad reason) done) p e l = refused-lawful reason done p e l
-failed_step-lawful (Busy (Good order) done) p e l = failed-lawful order done p e l (moves_by_bus order.form) refl
+bad_step_in-lawful : (phase : Phase) (p : Plain) → p.device.file.phase ≡ phase → IsLawful p.device
+    → IsLawful (bad_step_in phase p).device
+bad_step_in-lawful Reset p e l = l
+bad_step_in-lawful Idle p e l = l
+bad_step_in-lawful (Ready taken done left) p e l = l
+bad_step_in-lawful (Busy (Bad reason) done) p e l = refused-lawful reason done p e l
+bad_step_in-lawful (Busy (Good order) done) p e l = failed-lawful order done p e l (moves_by_bus order.form) refl
 
 -- every step
 pub step_made-lawful : (s : Step) (p : Plain) → HasWholeSectors p.device → IsLawful p.device
     → IsLawful (step_made s p).device
-step_made-lawful step.Good p whole l = stepped-lawful p.device.file.phase p refl whole l
-step_made-lawful step.Bad p whole l = failed_step-lawful p.device.file.phase p refl l
+step_made-lawful step.Good p whole l = good_step_in-lawful p.device.file.phase p refl whole l
+step_made-lawful step.Bad p whole l = bad_step_in-lawful p.device.file.phase p refl l

@@ -14,7 +14,7 @@ use Rattle.bm_dma.specs.declared.moves.Moved.TheVariants.{Waiting}
 use Rattle.bm_dma.specs.Move.{outcome, outcome_in, bus_next, bus_in, places_next, memory_after, sector_after}
 use Rattle.plain_drive.specs.Plain.{Plain, sector_value, with_cells}
 use Rattle.plain_drive.specs.Change.{leaves, cells_after, change_in, change_proceeded, change_walked, change_moved}
-use Rattle.plain_drive.specs.Step.{proceeds, proceeded, acts, acts_in, stepped, failed_step, good_step, step_made, walked, sector_given, transferred, position_after}
+use Rattle.plain_drive.specs.Step.{proceeds, proceeded, acts, acts_in, good_step_in, bad_step_in, good_step, step_made, walked, sector_given, transferred, position_after}
 
 no_walk : (walk : Option ℕ) → is_some walk ≡ false → walk ≡ None
 no_walk None still = refl
@@ -70,14 +70,14 @@ proceeded_no DmaOut order done p e idle =
     ap (λ more. if more then walked order done p else transferred order p) no.0 ∙ walked_no order done p e no.1
 
 stepped_no : (phase : Phase) (p : Plain) → p.device.file.phase ≡ phase → acts_in step.Good phase p ≡ false
-    → stepped phase p ≡ p
+    → good_step_in phase p ≡ p
 stepped_no Reset p e idle = grind arith
 stepped_no Idle p e idle = refl
 stepped_no (Ready taken done left) p e idle = refl
 stepped_no (Busy (Bad reason) done) p e idle = absurd cc
 stepped_no (Busy (Good order) done) p e idle = proceeded_no order.form order done p e idle
 
-failed_no : (phase : Phase) (p : Plain) → acts_in step.Bad phase p ≡ false → failed_step phase p ≡ p
+failed_no : (phase : Phase) (p : Plain) → acts_in step.Bad phase p ≡ false → bad_step_in phase p ≡ p
 failed_no Reset p idle = refl
 failed_no Idle p idle = refl
 failed_no (Ready taken done left) p idle = refl

@@ -23,14 +23,14 @@ pub data Change : Type 0 where
   writes : ℕ → List ℕ → Change
   flushes : Change
 
--- the cells after it: a written value is its sector's newest, and a flush makes each current value
+-- the cells after a change: a written value is its sector's newest, and a flush makes each current value
 -- durable (ATA/ATAPI-6, FLUSH CACHE; own: the disk model)
 abbrev pub cells_after : Change → List Cell → List Cell
 cells_after leaves cells = cells
 cells_after (writes s value) cells = appended s value cells
 cells_after flushes cells = all_flushed cells
 
--- of a command without data (ATA/ATAPI-6, FLUSH CACHE)
+-- what a command without data does to the sectors (ATA/ATAPI-6, FLUSH CACHE)
 abbrev pub change_without_data : Kind → Change
 change_without_data kind.Flush = flushes
 change_without_data kind.Read = leaves
@@ -39,22 +39,23 @@ change_without_data kind.Verify = leaves
 change_without_data kind.Identify = leaves
 change_without_data kind.Features = leaves
 
--- of a sector that the bus master moved out of memory: what isn't whole reaches no sector (own)
+-- what a sector that the bus master moved out of memory does: it is written where it is whole, and else reaches
+-- no sector (own)
 abbrev pub change_moved : Moved → ℕ → List ℕ → Change
 change_moved Whole s value = writes s value
 change_moved (Short n) s value = leaves
 change_moved Outside s value = leaves
 change_moved Waiting s value = leaves
 
--- of the next sector of a write by the bus master: its bytes are those at the places that the table
+-- what the next sector of a write by the bus master does: its bytes are those at the places that the table
 -- names (Bus Master IDE 1.0, descriptor table)
 abbrev pub change_walked : Request → ℕ → Plain → Change
 change_walked order done p =
     change_moved (outcome p.device.bus p.memory) (order.first + done)
     (sector_after (outcome p.device.bus p.memory) (places_next p.device.bus p.memory) p.memory [])
 
--- of a good step of an order, one equation for each way in which its data moves: a block that came
--- is written to its sector (ATA/ATAPI-6, PIO data-out)
+-- what a good step of an order does to the sectors, one equation for each way in which its data moves: a block that
+-- came is written to its sector (ATA/ATAPI-6, PIO data-out)
 abbrev pub change_proceeded : Form → Request → ℕ → Plain → Change
 change_proceeded PioIn order done p = leaves
 change_proceeded PioOut order done p =
@@ -64,7 +65,7 @@ change_proceeded DmaOut order done p =
     if nat_lt done order.count then change_walked order done p else leaves
 change_proceeded NoMove order done p = change_without_data order.kind
 
--- of a good step in a phase
+-- what a good step in a phase does to the sectors
 abbrev pub change_in : Phase → Plain → Change
 change_in Reset p = leaves
 change_in Idle p = leaves
@@ -72,7 +73,7 @@ change_in (Ready taken done left) p = leaves
 change_in (Busy (Bad reason) done) p = leaves
 change_in (Busy (Good order) done) p = change_proceeded order.form order done p
 
--- of a step: one that fails changes no sector (own)
+-- what a step does to the sectors: one that fails changes none (own)
 abbrev pub change_made : Step → Plain → Change
 change_made step.Good p = change_in p.device.file.phase p
 change_made step.Bad p = leaves

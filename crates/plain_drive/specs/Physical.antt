@@ -84,7 +84,7 @@ pub record Physical : Type 0 where
   pub memory : List ℕ
   pub kept : Kept
 
--- the drive as a plain one: a cell for each sector that it keeps
+-- a physical drive as a plain one: a cell for each sector that it keeps
 abbrev pub seen : Physical → Plain
 seen p = record {
   device = record {
@@ -134,7 +134,7 @@ physical_cut memory p = physical_at_power_on (kept_cut p.kept) p.sectors memory
 abbrev pub IsEndOf : Cell → Cell → Type 0
 IsEndOf cell whole = (older : List (List ℕ)) × (values whole ≡ values cell ++ older)
 
--- so does each of these cells of one of those
+-- each of these cells holds the newest values of the one beside it, one at least
 abbrev pub AreEndsOf : List Cell → List Cell → Type 0
 AreEndsOf [] [] = Unit {0}
 AreEndsOf [] (whole ∷ wholes) = ⊥

@@ -1,5 +1,6 @@
 -- The state of a plain drive, the values of its cells, and bytes as words and as sectors.
 use Rattle.std.specs.Prelude.{ℕ, ◌+◌, ◌*◌, zero, suc, List, [], ◌∷◌, map, take, drop, ◌++◌, slice_index_or}
+use Rattle.ata_taskfile.specs.declared.registers.TheConstants.{SECTOR_BYTES}
 use Rattle.ata_taskfile.specs.declared.task_file.TaskFile.{TaskFile}
 use Rattle.ata_taskfile.specs.Device.{Device, Cell, with_file}
 
@@ -68,7 +69,7 @@ words_of [] = []
 words_of (low ∷ []) = []
 words_of (low ∷ high ∷ rest) = (low + 256 * high) ∷ words_of rest
 
--- so many sectors of 512 bytes
+-- so many sectors, one after the other
 abbrev pub sectors_in : ℕ → List ℕ → List (List ℕ)
 sectors_in zero bytes = []
-sectors_in (suc n) bytes = take 512 bytes ∷ sectors_in n (drop 512 bytes)
+sectors_in (suc n) bytes = take SECTOR_BYTES bytes ∷ sectors_in n (drop SECTOR_BYTES bytes)

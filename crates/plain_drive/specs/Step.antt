@@ -12,7 +12,7 @@ use Rattle.ata_taskfile.specs.declared.Step.{Step}
 use Rattle.ata_taskfile.specs.declared.Step.TheVariants as step
 use Rattle.ata_taskfile.specs.declared.Stepped.{Stepped}
 use Rattle.ata_taskfile.specs.declared.Stepped.TheVariants.{Nothing, Changed}
-use Rattle.ata_taskfile.specs.declared.registers.TheConstants.{UNC, ABRT}
+use Rattle.ata_taskfile.specs.declared.registers.TheConstants.{UNC, ABRT, BLOCK_WORDS}
 use Rattle.ata_taskfile.specs.declared.task_file.TaskFile.{TaskFile}
 use Rattle.ata_taskfile.specs.Bus.{walk_ended}
 use Rattle.ata_taskfile.specs.TaskFile.{holds_reset, reset_ended, refused, interrupted_in, ended_failed, addressed}
@@ -33,7 +33,7 @@ ended p = with_registers (interrupted_in Idle p.device.file) p
 -- a block waits in Data, or is wanted there, and an interrupt pends
 abbrev pub offered : Request → ℕ → List ℕ → Plain → Plain
 offered order done block p =
-    with_registers (interrupted_in (Ready (Good order) done 256) p.device.file) (with_block block p)
+    with_registers (interrupted_in (Ready (Good order) done BLOCK_WORDS) p.device.file) (with_block block p)
 
 -- the words that a command gives: IDENTIFY DEVICE its own, any other those of the sector that is
 -- due (ATA/ATAPI-6, PIO data-in)
@@ -52,7 +52,7 @@ loaded order done p = offered order done (words_due order.kind (order.first + do
 -- the first block of a write is wanted in Data, without an interrupt (ATA/ATAPI-6, PIO data-out)
 abbrev pub first_wanted : Request → Plain → Plain
 first_wanted order p =
-    with_registers (record p.device.file { phase = Ready (Good order) 0 256 }) (with_block [] p)
+    with_registers (record p.device.file { phase = Ready (Good order) 0 BLOCK_WORDS }) (with_block [] p)
 
 -- after a block was written: the next one is wanted, or the command has ended, and an interrupt
 -- pends (ATA/ATAPI-6, PIO data-out)
@@ -109,13 +109,13 @@ proceeded NoMove order done p = ended p
 
 -- a good step in a phase, but for the sectors; Idle and Ready wait for the guest, and Reset while
 -- SRST is 1
-abbrev pub stepped : Phase → Plain → Plain
-stepped Reset p =
+abbrev pub good_step_in : Phase → Plain → Plain
+good_step_in Reset p =
     if holds_reset p.device.file then p else with_registers (reset_ended p.device.file) p
-stepped Idle p = p
-stepped (Ready taken done left) p = p
-stepped (Busy (Bad reason) done) p = with_registers (refused reason p.device.file) p
-stepped (Busy (Good order) done) p = proceeded order.form order done p
+good_step_in Idle p = p
+good_step_in (Ready taken done left) p = p
+good_step_in (Busy (Bad reason) done) p = with_registers (refused reason p.device.file) p
+good_step_in (Busy (Good order) done) p = proceeded order.form order done p
 
 -- the Error byte of an order that fails: a sector can't be had, or the command is given up
 -- (ATA/ATAPI-6, Error register; own: which for which)
@@ -161,17 +161,17 @@ given_up order done p =
     (without_walk order.form p)
 
 -- a bad step in a phase: it ends a command at which the drive is at work, and does nothing else
-abbrev pub failed_step : Phase → Plain → Plain
-failed_step Reset p = p
-failed_step Idle p = p
-failed_step (Ready taken done left) p = p
-failed_step (Busy (Bad reason) done) p = with_registers (refused reason p.device.file) p
-failed_step (Busy (Good order) done) p = given_up order done p
+abbrev pub bad_step_in : Phase → Plain → Plain
+bad_step_in Reset p = p
+bad_step_in Idle p = p
+bad_step_in (Ready taken done left) p = p
+bad_step_in (Busy (Bad reason) done) p = with_registers (refused reason p.device.file) p
+bad_step_in (Busy (Good order) done) p = given_up order done p
 
 -- a step of either kind, but for the sectors
 abbrev pub stepped_by : Step → Plain → Plain
-stepped_by step.Good p = stepped p.device.file.phase p
-stepped_by step.Bad p = failed_step p.device.file.phase p
+stepped_by step.Good p = good_step_in p.device.file.phase p
+stepped_by step.Bad p = bad_step_in p.device.file.phase p
 
 -- a step of either kind: it goes well, or the work in hand fails
 abbrev pub step_made : Step → Plain → Plain

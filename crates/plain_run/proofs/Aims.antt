@@ -28,7 +28,7 @@ use Rattle.ata_taskfile.specs.Lawful.{is_just_taken, is_possible, moves_in}
 use Rattle.ata_taskfile.proofs.Lawfulness.{order-possible}
 use Rattle.plain_drive.specs.Plain.{Plain, with_registers}
 use Rattle.plain_drive.specs.Words.{after_words, after_written}
-use Rattle.plain_drive.specs.Step.{stepped, failed_step, step_made, proceeded, sector_given, transferred, walked, first_wanted, next_wanted, offered, ended}
+use Rattle.plain_drive.specs.Step.{good_step_in, bad_step_in, step_made, proceeded, sector_given, transferred, walked, first_wanted, next_wanted, offered, ended}
 use Rattle.schedule_text.specs.declared.Item.TheVariants as item
 use Rattle.plain_run.specs.Taken.{command_item, commands_due}
 use Rattle.plain_run.specs.Written.{is_outward, is_within, row_writes, writes_sectors, names_write, items_name}
@@ -216,7 +216,7 @@ module _ (s : ℕ) where
       (transferred order p) away refl
 
   stepped_away : (phase : Phase) (p : Plain) → p.device.file.phase ≡ phase → aims_in s phase ≡ false
-      → aims_in s (stepped phase p).device.file.phase ≡ false
+      → aims_in s (good_step_in phase p).device.file.phase ≡ false
   stepped_away Reset p e away = chosen_away (holds_reset p.device.file) p
       (with_registers (reset_ended p.device.file) p) (rw e away) refl
   stepped_away Idle p e away = rw e away
@@ -225,7 +225,7 @@ module _ (s : ℕ) where
   stepped_away (Busy (Good order) done) p e away = proceeded_away order.form order done p away
 
   failed_away : (phase : Phase) (p : Plain) → p.device.file.phase ≡ phase → aims_in s phase ≡ false
-      → aims_in s (failed_step phase p).device.file.phase ≡ false
+      → aims_in s (bad_step_in phase p).device.file.phase ≡ false
   failed_away Reset p e away = rw e away
   failed_away Idle p e away = rw e away
   failed_away (Ready order done left) p e away = rw e away

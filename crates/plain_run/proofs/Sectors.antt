@@ -19,7 +19,7 @@ use Rattle.ata_taskfile.specs.Device.{Device, with_bus}
 use Rattle.ata_taskfile.proofs.Cells.{accessed-sectors}
 use Rattle.plain_drive.specs.Plain.{Plain, with_registers}
 use Rattle.plain_drive.specs.Change.{change_made}
-use Rattle.plain_drive.specs.Step.{step_made, stepped, failed_step, proceeded, sector_given, transferred, walked, first_wanted, next_wanted, offered, ended, without_walk}
+use Rattle.plain_drive.specs.Step.{step_made, good_step_in, bad_step_in, proceeded, sector_given, transferred, walked, first_wanted, next_wanted, offered, ended, without_walk}
 use Rattle.plain_drive.specs.Physical.{Physical, seen}
 use Rattle.schedule_text.specs.declared.Event.{Event}
 use Rattle.schedule_text.specs.declared.Event.TheVariants as event
@@ -57,7 +57,7 @@ proceeded_sectors DmaOut order done p =
     chosen_sectors (nat_lt done order.count) p.device.sectors (walked order done p) (transferred order p) refl
     (walk_sectors order.form p)
 
-stepped_sectors : (phase : Phase) (p : Plain) → (stepped phase p).device.sectors ≡ p.device.sectors
+stepped_sectors : (phase : Phase) (p : Plain) → (good_step_in phase p).device.sectors ≡ p.device.sectors
 stepped_sectors Reset p = chosen_sectors (holds_reset p.device.file) p.device.sectors p
     (with_registers (reset_ended p.device.file) p) refl refl
 stepped_sectors Idle p = refl
@@ -65,7 +65,7 @@ stepped_sectors (Ready taken done left) p = refl
 stepped_sectors (Busy (Bad reason) done) p = refl
 stepped_sectors (Busy (Good order) done) p = proceeded_sectors order.form order done p
 
-failed_sectors : (phase : Phase) (p : Plain) → (failed_step phase p).device.sectors ≡ p.device.sectors
+failed_sectors : (phase : Phase) (p : Plain) → (bad_step_in phase p).device.sectors ≡ p.device.sectors
 failed_sectors Reset p = refl
 failed_sectors Idle p = refl
 failed_sectors (Ready taken done left) p = refl

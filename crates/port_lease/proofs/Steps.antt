@@ -11,7 +11,7 @@ use Rattle.ata_taskfile.specs.declared.Step.TheVariants as step
 use Rattle.ata_taskfile.specs.Data.{moves_by_bus}
 use Rattle.ata_taskfile.specs.Device.{is_moving}
 use Rattle.plain_drive.specs.Plain.{Plain}
-use Rattle.plain_drive.specs.Step.{acts_in, proceeded, stepped, failed_step, step_made}
+use Rattle.plain_drive.specs.Step.{acts_in, proceeded, good_step_in, bad_step_in, step_made}
 use Rattle.plain_drive.proofs.Steps.{step_made_no}
 use Rattle.port_lease.specs.declared.view.View.{View}
 use Rattle.port_lease.specs.View.{IsKept, IsGiven}
@@ -27,16 +27,16 @@ module _ (v : View) where
   proceeded-kept DmaIn order done p e k = grind arith
   proceeded-kept DmaOut order done p e k = grind arith
 
-  stepped-kept : (phase : Phase) (p : Plain) → p.device.file.phase ≡ phase → IsKept v p.device.file
-      → IsKept v (stepped phase p).device.file
-  stepped-kept Reset p e k = grind arith
-  stepped-kept Idle p e k = k
-  stepped-kept (Ready taken done left) p e k = k
-  stepped-kept (Busy (Bad reason) done) p e k = grind arith
-  stepped-kept (Busy (Good order) done) p e k = proceeded-kept order.form order done p e k
+  good_step_in-kept : (phase : Phase) (p : Plain) → p.device.file.phase ≡ phase → IsKept v p.device.file
+      → IsKept v (good_step_in phase p).device.file
+  good_step_in-kept Reset p e k = grind arith
+  good_step_in-kept Idle p e k = k
+  good_step_in-kept (Ready taken done left) p e k = k
+  good_step_in-kept (Busy (Bad reason) done) p e k = grind arith
+  good_step_in-kept (Busy (Good order) done) p e k = proceeded-kept order.form order done p e k
 
   failed-kept : (phase : Phase) (p : Plain) → p.device.file.phase ≡ phase → IsKept v p.device.file
-      → IsKept v (failed_step phase p).device.file
+      → IsKept v (bad_step_in phase p).device.file
   failed-kept Reset p e k = k
   failed-kept Idle p e k = k
   failed-kept (Ready taken done left) p e k = k
@@ -44,7 +44,7 @@ module _ (v : View) where
   failed-kept (Busy (Good order) done) p e k = grind arith
 
   pub step-kept : (s : Step) (p : Plain) → IsKept v p.device.file → IsKept v (step_made s p).device.file
-  step-kept step.Good p k = stepped-kept p.device.file.phase p refl k
+  step-kept step.Good p k = good_step_in-kept p.device.file.phase p refl k
   step-kept step.Bad p k = failed-kept p.device.file.phase p refl k
 
 -- a step begins no order of the bus master's
@@ -58,7 +58,7 @@ proceeded-moves DmaIn order done p e calm is = cc
 proceeded-moves DmaOut order done p e calm is = cc
 
 stepped-moves : (phase : Phase) (p : Plain) → p.device.file.phase ≡ phase → is_moving phase ≡ false
-    → is_moving (stepped phase p).device.file.phase ≡ false
+    → is_moving (good_step_in phase p).device.file.phase ≡ false
 stepped-moves Reset p e calm = grind arith
 stepped-moves Idle p e calm = rw e refl
 stepped-moves (Ready taken done left) p e calm = rw e refl
@@ -66,7 +66,7 @@ stepped-moves (Busy (Bad reason) done) p e calm = refl
 stepped-moves (Busy (Good order) done) p e calm = proceeded-moves order.form order done p e calm calm
 
 failed-moves : (phase : Phase) (p : Plain) → p.device.file.phase ≡ phase → is_moving phase ≡ false
-    → is_moving (failed_step phase p).device.file.phase ≡ false
+    → is_moving (bad_step_in phase p).device.file.phase ≡ false
 failed-moves Reset p e calm = rw e refl
 failed-moves Idle p e calm = rw e refl
 failed-moves (Ready taken done left) p e calm = rw e refl
