@@ -64,7 +64,8 @@ module _ (source : ℕ → List ℕ) (tag : ℕ) (sectors : List ℕ) (long : le
   shown = own_bytes pool f.lease (with_part (tag - first_tag f) sectors (leased_bytes f.lease pool)) whole of full
 
   pub whole_after : HasWholeBuffers (with_tag_sectors tag sectors f pool)
-  whole_after = whole_written pool f.lease (with_part (tag - first_tag f) sectors (leased_bytes f.lease pool)) whole of full
+  whole_after =
+      whole_written pool f.lease (with_part (tag - first_tag f) sectors (leased_bytes f.lease pool)) whole of full
 
   -- the buffer holds the tag's two sectors, and what it held
   pub own_holds : Holds source (Some f) pool → Holds source (Some (with_tag Answered tag f))

@@ -10,7 +10,13 @@ use Rattle.aoe_client.specs.Messages.{Answers, IsReplyArgument}
 long : (bytes : List ℕ) (a : Argument) (tag : ℕ) → HasArgument (drop HEADER_BYTES bytes) a → IsReplyArgument a tag
     → BODY_AT + PART_BYTES ≤ length bytes
 long bytes (Ata a) tag has read =
-    omega (arith, read.body, ap length has.2, length-drop ATA_BYTES (drop HEADER_BYTES bytes), length-drop HEADER_BYTES bytes)
+    omega (
+      arith,
+      read.body,
+      ap length has.2,
+      length-drop ATA_BYTES (drop HEADER_BYTES bytes),
+      length-drop HEADER_BYTES bytes,
+    )
 long bytes (Config a) tag has read = absurd read
 long bytes Other tag has read = absurd read
 

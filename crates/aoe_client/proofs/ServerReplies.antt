@@ -98,7 +98,8 @@ module _ (sectors : ℕ) (image : List ℕ) (tag : ℕ) where
   -- the sectors of a reply to a header with an argument, by what is read of it
   reply_sectors : (h : Header) (asked taken : Argument) → ArgumentFits asked → ArgumentFits taken
       → HasArgument (argument_written (reply_to sectors image h asked).argument) taken → IsReplyArgument taken tag
-      → drop ATA_BYTES (argument_written (reply_to sectors image h asked).argument) ≡ bytes_at (PART_BYTES * tag) PART_BYTES image
+      → drop ATA_BYTES (argument_written (reply_to sectors image h asked).argument)
+      ≡ bytes_at (PART_BYTES * tag) PART_BYTES image
   reply_sectors h (Ata a) taken fits fits_t has read = ata_sectors a taken fits fits_t has read
   reply_sectors h Other taken fits fits_t has read = absurd (nothing_read taken [] (omega arith) has read)
   reply_sectors h (Config c) taken fits fits_t has read = elim (cases_Bool (c.code == 0)) [
@@ -168,4 +169,5 @@ module _ (sectors : ℕ) (image : List ℕ) (tag : ℕ) where
   pub honest_sectors : (asked bytes : List ℕ) → IsReply sectors image asked (Some bytes) → Answers bytes tag
       → sectors_carried bytes ≡ bytes_at (PART_BYTES * tag) PART_BYTES image
   honest_sectors asked bytes honest taken =
-      honest_where asked bytes honest.reading (reply sectors image honest.reading) honest.reads refl honest.written taken
+      honest_where asked bytes honest.reading (reply sectors image honest.reading) honest.reads refl
+      honest.written taken

@@ -100,8 +100,8 @@ abbrev pub slot_filled : ℕ → List ℕ → Option Fetching → Region → Reg
 slot_filled tag sectors None pool = pool
 slot_filled tag sectors (Some f) pool = tag_filled tag sectors f pool
 
--- a pool once a frame was heard: the two sectors of a tag that was taken are in the buffer of each slot in which the tag
--- was unanswered or due
+-- a pool once a frame was heard: the two sectors of a tag that was taken are in the buffer of each slot in which it was
+-- unanswered or due
 abbrev pub buffers_heard : Heard → List ℕ → Asking → Region → Region
 buffers_heard Ignored sectors c pool = pool
 buffers_heard (Took tag) sectors c pool =

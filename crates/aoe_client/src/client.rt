@@ -139,8 +139,10 @@ impl Client {
         ensures took { (tag : ℕ) → (result ≡ Heard.Took tag)
             ↔ (Answers frame.now tag × (is_awaited tag self.old ≡ true)) }
         ensures after { self.new ≡ heard result self.old }
-        ensures buffers { pool.new ≡ buffers_heard result (sectors_carried frame.now) self.old pool.old }
-        ensures kept { (source : ℕ → List ℕ) → SourceGives source (sectors_carried frame.now) result →
+        ensures buffers { pool.new
+            ≡ buffers_heard result (sectors_carried frame.now) self.old pool.old }
+        ensures kept { (source : ℕ → List ℕ) →
+            SourceGives source (sectors_carried frame.now) result →
             BothHold source self.old pool.old → BothHold source self.new pool.new }
         ensures held { AreOf (leases_of self.new) pool.new }
         ensures rest { pool.new ≡ record pool.old { block = pool.new.block } }
@@ -218,7 +220,8 @@ impl Client {
         }
     }
 
-    // The two sectors of a tag go into the buffer of each slot in which it is unanswered or due; false where in neither.
+    // The two sectors of a tag go into the buffer of each slot in which it is unanswered or due; false where it is so
+    // in neither.
     fn hear(&mut self, pool: &mut Pool, tag: u32, sectors: &[u8]) -> bool
         requires of_pool { AreOf (leases_of self.old) pool.old }
         requires room { SECTOR_BYTES * self.old.block ≤ pool.old.room }

@@ -29,7 +29,12 @@ impl Model for Fetch {
 
     ghost Value = { Fetching };
 
-    ghost view = { λ f. record { lease = f.lease; block = f.block; age = f.age; tags = f.tags.items } };
+    ghost view = { λ f. record {
+      lease = f.lease;
+      block = f.block;
+      age = f.age;
+      tags = f.tags.items;
+    } };
 
     ghost invariant = { λ f. (f.age < RESEND_AGE) × (length f.tags.items ≤ MOST_TAGS)
         × (f.block * length f.tags.items + length f.tags.items ≤ 2 ^ 31) };

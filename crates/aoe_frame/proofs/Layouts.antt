@@ -139,7 +139,8 @@ one_message bytes a b says_a says_b =
     λ i. record { header = headers i; argument = arguments i }
 
 -- a header has 24 bytes
-pub length-header_bytes : (h : Header) → length h.dest ≡ 6 → length h.source ≡ 6 → length (header_bytes h) ≡ HEADER_BYTES
+pub length-header_bytes : (h : Header) → length h.dest ≡ 6 → length h.source ≡ 6
+    → length (header_bytes h) ≡ HEADER_BYTES
 length-header_bytes h dest source = simp (length-append, dest, source)
 
 -- bytes with a header are as many as it has
@@ -161,7 +162,8 @@ take_fewer (x ∷ (y ∷ xs)) = refl
 pub header_type : (bytes : List ℕ) (h : Header) → HasFrameHeader bytes h → IsAoe bytes
 unfolding behind
 header_type bytes h has =
-    let left : drop TYPE_AT (take HEADER_BYTES bytes) ≡ take TYPE_AT (drop TYPE_AT bytes) = drop-take TYPE_AT TYPE_AT bytes in
+    let left : drop TYPE_AT (take HEADER_BYTES bytes) ≡ take TYPE_AT (drop TYPE_AT bytes) =
+    drop-take TYPE_AT TYPE_AT bytes in
     let addresses : length (h.dest ++ h.source) ≡ TYPE_AT = simp (length-append, has.fits.dest, has.fits.source) refl in
     let apart : header_bytes h ≡ (h.dest ++ h.source) ++ behind h = laid_apart h
     ∙ sym (append_assoc h.dest h.source (behind h)) in

@@ -10,7 +10,8 @@ use crate::{Frame, VERSION, parse};
 
 /// Bytes say one message at most, of whatever version.
 pub fn bytes_say_one_message()
-    ensures once { (bytes : List ℕ) (a b : AoeOf) → SaysMessage bytes a → SaysMessage bytes b → a ≡ b }
+    ensures once { (bytes : List ℕ) (a b : AoeOf) →
+        SaysMessage bytes a → SaysMessage bytes b → a ≡ b }
 {}
 
 /// A frame has one reading at most: a message, or one of the faults.

@@ -17,7 +17,8 @@ pub fn write(message: &Aoe) -> Frame
     ensures frame { result ≡ frame_of message.now }
     ensures read_back { IsArgumentOf message.now.header.command message.now.argument →
         SaysMessage result message.now }
-    ensures shortest { (bytes : List ℕ) → SaysMessage bytes message.now → length result ≤ length bytes }
+    ensures shortest { (bytes : List ℕ) → SaysMessage bytes message.now →
+        length result ≤ length bytes }
     ensures other { message.now.argument ≡ Argument.Other → length result ≡ HEADER_BYTES }
 {
     write_all(message)

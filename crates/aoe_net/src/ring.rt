@@ -26,7 +26,8 @@ impl Model for Ring {
 
     ghost view = { λ r. r.frames.items };
 
-    ghost invariant = { λ r. (r.frames.capacity ≡ MOST_FRAMES) × (length r.frames.items ≤ MOST_FRAMES) };
+    ghost invariant = { λ r. (r.frames.capacity ≡ MOST_FRAMES)
+        × (length r.frames.items ≤ MOST_FRAMES) };
 }
 
 impl Ring {

@@ -24,7 +24,8 @@ over_map sectors (Some image) P Q follows over = follows image over
 
 -- an image with these bytes at a place
 image_with : ℕ → ℕ → List ℕ → List ℕ
-image_with sectors place bytes = replicate place 0 ++ (bytes ++ replicate (SECTOR_BYTES * sectors - place - length bytes) 0)
+image_with sectors place bytes =
+    replicate place 0 ++ (bytes ++ replicate (SECTOR_BYTES * sectors - place - length bytes) 0)
 
 length-image_with : (sectors place : ℕ) (bytes : List ℕ) → place + length bytes ≤ SECTOR_BYTES * sectors
     → length (image_with sectors place bytes) ≡ SECTOR_BYTES * sectors

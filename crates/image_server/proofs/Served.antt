@@ -36,10 +36,12 @@ pub answer_sectors : (sectors : ℕ) (told : Option (List ℕ)) (a r : AtaPart) 
     → OverImage sectors told (λ image. r ≡ ata_answer (asked_in sectors a) sectors image a)
 answer_sectors sectors told a r body asked is many read =
     let inside = asked_sectors sectors a asked in
-    over_map sectors told (λ image. r ≡ answered a NO_ERROR GOOD_STATUS (bytes_at (SECTOR_BYTES * a.lba) (SECTOR_BYTES * a.count) image))
+    over_map sectors told
+    (λ image. r ≡ answered a NO_ERROR GOOD_STATUS (bytes_at (SECTOR_BYTES * a.lba) (SECTOR_BYTES * a.count) image))
     (λ image. r ≡ ata_answer (asked_in sectors a) sectors image a)
     (λ image e. e ∙ ap (λ k. ata_answer k sectors image a) (sym asked))
-    (over_bytes sectors (SECTOR_BYTES * a.lba) (SECTOR_BYTES * a.count) told body (λ bytes. r ≡ answered a NO_ERROR GOOD_STATUS bytes)
+    (over_bytes sectors (SECTOR_BYTES * a.lba) (SECTOR_BYTES * a.count) told body
+    (λ bytes. r ≡ answered a NO_ERROR GOOD_STATUS bytes)
     (omega arith) many read is)
 
 -- what is answered to a reading of a frame is answered to the frame

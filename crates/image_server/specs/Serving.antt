@@ -11,7 +11,8 @@ use Rattle.image_server.specs.Reply.{reply, sectors_sent}
 
 -- the image has so many sectors, where it is told
 abbrev pub HasImage : ℕ → Outside → Type 0
-HasImage sectors outside = IfTold (outside.told Image) (λ image. SECTOR_BYTES * sectors ≤ length image)
+HasImage sectors outside =
+    IfTold (outside.told Image) (λ image. SECTOR_BYTES * sectors ≤ length image)
 
 -- over the image where it is told, else over some image of so many sectors
 abbrev pub OverImage : ℕ → Option (List ℕ) → (List ℕ → Type 0) → Type 0

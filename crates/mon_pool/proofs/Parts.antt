@@ -83,7 +83,8 @@ module _ (n k : ℕ) (bytes block : List ℕ) (long : length bytes ≡ n) (fits 
       ∙ written_there (k * n) bytes block (omega (arith, long, fits))
 
   -- each part but k is as it was
-  pub part_kept : (i : ℕ) → i ≢ k → take n (drop (i * n) (written_over (k * n) bytes block)) ≡ take n (drop (i * n) block)
+  pub part_kept : (i : ℕ) → i ≢ k
+      → take n (drop (i * n) (written_over (k * n) bytes block)) ≡ take n (drop (i * n) block)
   part_kept i apart = elim (cases_lt i k) [
     | inl below ↦ written_below (k * n) bytes block (omega (arith, long, fits)) (i * n) n
         (omega (arith, mul-le-mul_right n below))

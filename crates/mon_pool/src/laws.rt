@@ -33,7 +33,8 @@ pub fn a_given_lease_is_spent()
 
 /// What is written through a lease is what it shows, and no other lease shows a byte of it.
 pub fn bytes_are_the_holders()
-    ensures own { (pool : Region) (lease : Held) (bytes : List ℕ) → HasWholeBuffers pool → IsOf lease pool →
+    ensures own { (pool : Region) (lease : Held) (bytes : List ℕ) →
+        HasWholeBuffers pool → IsOf lease pool →
         length bytes ≡ pool.room → leased_bytes lease (with_bytes lease pool bytes) ≡ bytes }
     ensures others { (pool : Region) (lease other : Held) (bytes : List ℕ) → HasWholeBuffers pool →
         IsOf lease pool → length bytes ≡ pool.room → other.buffer ≢ lease.buffer →

@@ -18,4 +18,5 @@ returns-in-Identity-clause-answer g c =
     answer_plain c.args.sectors ((g.H.Host.outside c.args.host.now).told Image) c.args.part.now
     c.answered-in-Identity.result Identity
     (sym c.asked_in.ensures.asked ∙ c.in-Identity.is)
-    (λ image. c.answered-in-Identity.ensures.part ∙ ap (answered c.args.part.now NO_ERROR GOOD_STATUS) c.server_identity.ensures.bytes)
+    (λ image. c.answered-in-Identity.ensures.part
+    ∙ ap (answered c.args.part.now NO_ERROR GOOD_STATUS) c.server_identity.ensures.bytes)

@@ -9,12 +9,14 @@ returns-clause-kept c source gives holds =
     let s = c.self.inside in
     let here : Asking = record { block = s.block; demand = s.demand; background = s.background } in
     let one = c.hear_in-demand.ensures in let two = c.hear_in-background.ensures in
-    let q : c.hear_in-background.new.pool ≡ slot_filled tag sectors s.background (slot_filled tag sectors s.demand pool) =
+    let q : c.hear_in-background.new.pool
+    ≡ slot_filled tag sectors s.background (slot_filled tag sectors s.demand pool) =
     two.buffer ∙ ap (slot_filled tag sectors s.background) one.buffer in
     let of_pool = rw (← c.self.view_is) at c.requires.of_pool in
     let room = rw (← c.self.view_is) at c.requires.room in
     let held = rw (← c.self.view_is) at holds in
-    rw (one.after, two.after, q) (both_hold source tag sectors c.requires.sectors gives here pool c.a_pool_is_whole.ensures of_pool
+    rw (one.after, two.after, q) (both_hold source tag sectors c.requires.sectors gives here pool
+    c.a_pool_is_whole.ensures of_pool
     (has_room s.block pool.room s.demand c.self.invariant.1 room)
     (has_room s.block pool.room s.background c.self.invariant.2 room)
     held)
