@@ -70,6 +70,9 @@ const LARGE: Area = Area {
     block: 16,
 };
 
+// A job, and what stands behind its end: the buffer, the first empty block, and whether each filled block is stored.
+type Turn = (Option<OwnJob>, [u8; 512], Option<u32>, bool);
+
 // An opening with its bitmap, and the buffer.
 #[derive(Drop)]
 struct Begun {
@@ -98,6 +101,13 @@ impl Begun {
         self.opening.ended(ok, &mut self.bitmap, &mut self.buffer);
         Some(job)
     }
+
+    // The next job, which ends so; the buffer, the first empty block and whether each filled block is stored then.
+    fn turn(&mut self, bytes: [u8; 512], ok: bool) -> Turn {
+        let job = self.end(bytes, ok);
+        let empty = self.bitmap.first_empty_from(0);
+        (job, self.buffer, empty, self.bitmap.filled_is_stored())
+    }
 }
 
 #[test]
@@ -118,13 +128,15 @@ fn jobs_of_a_fresh_disk(rt: HostRuntime) -> Result<(), Fail> {
         (Flush, true, old),
     ];
     for (i, (job, ok, buffer)) in cases.into_iter().enumerate() {
-        assert_eq!(rt; begun.end(old, ok), Some(job), "job {i}");
-        assert!(rt; begun.buffer == buffer, "job {i}");
-        assert!(rt; begun.bitmap.filled_is_stored(), "job {i}");
+        assert!(rt;
+            begun.turn(old, ok) == (Some(job), buffer, Some(0), true),
+            "job {i}"
+        );
     }
-    assert_eq!(rt; begun.opening.next(), None);
-    assert!(rt; !begun.bitmap.all_stored());
-    assert_eq!(rt; begun.bitmap.first_empty_from(0), Some(0));
+    assert_eq!(rt;
+        (begun.opening.next(), begun.bitmap.all_stored()),
+        (None, false)
+    );
     Ok(())
 }
 
@@ -140,10 +152,10 @@ fn jobs_of_a_begun_disk(rt: HostRuntime) -> Result<(), Fail> {
         (Read(78, 1), beginning_with(&[0x17]), true, Some(3)),
     ];
     for (i, (job, bytes, ok, empty)) in cases.into_iter().enumerate() {
-        assert_eq!(rt; begun.end(bytes, ok), Some(job), "job {i}");
-        assert!(rt; begun.buffer == bytes, "job {i}");
-        assert_eq!(rt; begun.bitmap.first_empty_from(0), empty, "job {i}");
-        assert!(rt; begun.bitmap.filled_is_stored(), "job {i}");
+        assert!(rt;
+            begun.turn(bytes, ok) == (Some(job), bytes, empty, true),
+            "job {i}"
+        );
     }
     assert_eq!(rt; begun.opening.next(), None);
     Ok(())
@@ -228,6 +240,16 @@ impl Settling {
         Some((job, goes_on))
     }
 
+    // Four jobs and what their ends answer, where this one of the first three fails, if one does.
+    fn jobs(&mut self, failing: Option<usize>) -> [Option<(OwnJob, bool)>; 4] {
+        [
+            self.end(failing != Some(0)),
+            self.end(failing != Some(1)),
+            self.end(failing != Some(2)),
+            self.end(true),
+        ]
+    }
+
     // Whether block 0 is stored, and block 1.
     fn stored(&self) -> [bool; 2] {
         [self.bitmap.is_stored(0), self.bitmap.is_stored(1)]
@@ -237,19 +259,29 @@ impl Settling {
 #[test]
 fn jobs_of_a_settling(rt: HostRuntime) -> Result<(), Fail> {
     let (old, bits) = ([0xee; 512], beginning_with(&[0x01]));
-    // The job that fails, if one does; the three jobs with what their ends answer, the buffer at last, and whether
-    // block 0 is stored then. Block 1, which was filled after the set was frozen, isn't.
-    let done = [
-        Some((Flush, true)),
-        Some((Write(78, 1), true)),
-        Some((Flush, true)),
-    ];
+    // The job that fails, if one does; the jobs with what their ends answer, the buffer at last, and whether block 0 is
+    // stored then. Block 1, which was filled after the set was frozen, isn't.
     let cases = [
-        (None, done, bits, true),
-        (Some(0), [Some((Flush, false)), None, None], old, false),
+        (
+            None,
+            [
+                Some((Flush, true)),
+                Some((Write(78, 1), true)),
+                Some((Flush, true)),
+                None,
+            ],
+            bits,
+            true,
+        ),
+        (
+            Some(0),
+            [Some((Flush, false)), None, None, None],
+            old,
+            false,
+        ),
         (
             Some(1),
-            [Some((Flush, true)), Some((Write(78, 1), false)), None],
+            [Some((Flush, true)), Some((Write(78, 1), false)), None, None],
             bits,
             false,
         ),
@@ -259,6 +291,7 @@ fn jobs_of_a_settling(rt: HostRuntime) -> Result<(), Fail> {
                 Some((Flush, true)),
                 Some((Write(78, 1), true)),
                 Some((Flush, false)),
+                None,
             ],
             bits,
             false,
@@ -266,12 +299,10 @@ fn jobs_of_a_settling(rt: HostRuntime) -> Result<(), Fail> {
     ];
     for (failing, jobs, buffer, stored) in cases {
         let mut settling = Settling::new(rt.alloc())?;
-        for (i, job) in jobs.into_iter().enumerate() {
-            assert_eq!(rt; settling.end(failing != Some(i)), job, "{failing:?} {i}");
-        }
-        assert_eq!(rt; settling.end(true), None, "{failing:?}");
-        assert!(rt; settling.buffer == buffer, "{failing:?}");
-        assert_eq!(rt; settling.stored(), [stored, false], "{failing:?}");
+        let found = settling.jobs(failing);
+        assert_eq!(rt; found, jobs, "{failing:?}");
+        let left = (settling.buffer, settling.stored());
+        assert!(rt; left == (buffer, [stored, false]), "{failing:?}");
     }
     Ok(())
 }

@@ -231,18 +231,23 @@ const TAKES: [(&[Act], bool, u8, u8); 7] = [
     ),
 ];
 
+// Whether a take after a reset and these acts is Busy, and then Alternate Status, Device and the line; None where the
+// drive isn't free after power-on.
+fn take_after(alloc: Global, acts: &[Act]) -> Result<Option<(bool, u8, u8, bool)>, AllocError> {
+    let Some(guest) = guest_after(alloc, acts)? else {
+        return Ok(None);
+    };
+    let (file, mut machine) = guest.taken();
+    let drive = &mut machine.drive;
+    let (status, device) = (drive.read8(Reg::Alternate), drive.read8(Reg::Device));
+    Ok(Some((file.is_none(), status, device, drive.line())))
+}
+
 #[test]
 fn take_is_busy_with_bsy_or_dev_or_an_interrupt(rt: HostRuntime) -> Result<(), Fail> {
     for (acts, busy, status, shown) in TAKES {
-        if let Some(guest) = guest_after(rt.alloc(), acts)? {
-            let (file, mut machine) = guest.taken();
-            let drive = &mut machine.drive;
-            let seen = (drive.read8(Reg::Alternate), drive.read8(Reg::Device));
-            assert_eq!(rt; file.is_none(), busy, "{acts:?}");
-            assert_eq!(rt; (seen, drive.line()), ((status, shown), false), "{acts:?}");
-        } else {
-            assert!(rt; false, "the drive is free after power-on");
-        }
+        let wanted = Some((busy, status, shown, false));
+        assert_eq!(rt; take_after(rt.alloc(), acts)?, wanted, "{acts:?}");
     }
     Ok(())
 }
@@ -279,23 +284,28 @@ const TAKEN: TaskFile = TaskFile {
     phase: Phase::Idle,
 };
 
+// The registers of the view after a take over both bytes of each register, and then Count, Low, Mid and High of the
+// drive.
+fn taken_whole(alloc: Global) -> Result<Option<(Option<TaskFile>, [u8; 4])>, AllocError> {
+    let Some(guest) = guest_after(alloc, &BOTH_BYTES)? else {
+        return Ok(None);
+    };
+    let (file, mut machine) = guest.taken();
+    let drive = &mut machine.drive;
+    let shown = [
+        drive.read8(Reg::Count),
+        drive.read8(Reg::Low),
+        drive.read8(Reg::Mid),
+        drive.read8(Reg::High),
+    ];
+    Ok(Some((file, shown)))
+}
+
 #[test]
 fn take_puts_what_the_guest_reads_into_the_view(rt: HostRuntime) -> Result<(), Fail> {
-    if let Some(guest) = guest_after(rt.alloc(), &BOTH_BYTES)? {
-        let (file, mut machine) = guest.taken();
-        assert_eq!(rt; file, Some(TAKEN));
-        // The drive shows the previous bytes still.
-        for (reg, previous) in [
-            (Reg::Count, 0x21),
-            (Reg::Low, 0x31),
-            (Reg::Mid, 0x41),
-            (Reg::High, 0x51),
-        ] {
-            assert_eq!(rt; machine.drive.read8(reg), previous, "{reg:?}");
-        }
-    } else {
-        assert!(rt; false, "the drive is free after power-on");
-    }
+    // The drive shows the previous bytes still.
+    let wanted = Some((Some(TAKEN), [0x21, 0x31, 0x41, 0x51]));
+    assert_eq!(rt; taken_whole(rt.alloc())?, wanted);
     Ok(())
 }
 
@@ -541,20 +551,21 @@ const KEEPS: [(&[Act], u8, u8); 7] = [
     ),
 ];
 
+// Features and Device Control of the view after a reset and these acts; None where the drive isn't free after power-on.
+fn kept_after(alloc: Global, acts: &[Act]) -> Result<Option<(u8, u8)>, AllocError> {
+    let Some(guest) = guest_after(alloc, acts)? else {
+        return Ok(None);
+    };
+    let (file, _) = guest.view();
+    let _machine = guest.end();
+    Ok(Some((file.features, file.control)))
+}
+
 #[test]
 fn what_cannot_be_read_is_kept(rt: HostRuntime) -> Result<(), Fail> {
     for (acts, features, control) in KEEPS {
-        if let Some(guest) = guest_after(rt.alloc(), acts)? {
-            let (file, _) = guest.view();
-            let _machine = guest.end();
-            assert_eq!(rt;
-                (file.features, file.control),
-                (features, control),
-                "{acts:?}"
-            );
-        } else {
-            assert!(rt; false, "the drive is free after power-on");
-        }
+        let wanted = Some((features, control));
+        assert_eq!(rt; kept_after(rt.alloc(), acts)?, wanted, "{acts:?}");
     }
     Ok(())
 }

@@ -15,21 +15,22 @@ use drive_store::{MemoryStore, Store, StoreFault};
 use std::alloc::{AllocError, Global};
 
 /// How many sectors the drive has.
-pub const SECTORS: u64 = 512;
+pub(crate) const SECTORS: u64 = 512;
 
 /// The word in all places of sectors 0, 1 and 2; that of the others is 0.
-pub const WORDS: [u16; 3] = [0x5678, 0x1234, 0xabcd];
+pub(crate) const WORDS: [u16; 3] = [0x5678, 0x1234, 0xabcd];
 
+// The drive over sectors in memory, and the guest's memory.
 #[derive(Drop)]
-pub struct Machine {
-    pub drive: Drive<MemoryStore>,
-    pub memory: GuestMemory,
+pub(crate) struct Machine {
+    pub(crate) drive: Drive<MemoryStore>,
+    pub(crate) memory: GuestMemory,
     ghost sectors: { count_of drive ≡ 512 },
 }
 
 impl Machine {
     /// After the reset of power-on, which leaves the drive free.
-    pub fn new(alloc: Global) -> Result<Machine, AllocError> {
+    pub(crate) fn new(alloc: Global) -> Result<Machine, AllocError> {
         let mut machine = Machine {
             drive: Drive::new(alloc, store(alloc)?)?,
             memory: GuestMemory::new(alloc, 0x2000)?,
@@ -39,14 +40,14 @@ impl Machine {
     }
 
     /// A write to a register of the drive.
-    pub fn write(&mut self, reg: Reg, v: u8)
+    pub(crate) fn write(&mut self, reg: Reg, v: u8)
         ensures { device_of self.new.drive ≡ after_write8 reg v (device_of self.old.drive) }
     {
         self.drive.write8(reg, v);
     }
 
     /// A step of the drive.
-    pub fn step(&mut self, step: Step)
+    pub(crate) fn step(&mut self, step: Step)
         ensures { physical_of self.new.drive self.new.memory
             ≡ physical_step step (physical_of self.old.drive self.old.memory) }
     {
@@ -57,7 +58,7 @@ impl Machine {
     }
 
     /// The oldest entry of the cache becomes durable.
-    pub fn destage(&mut self)
+    pub(crate) fn destage(&mut self)
         ensures { physical_of self.new.drive self.new.memory
             ≡ physical_destaged 0 (physical_of self.old.drive self.old.memory) }
     {
@@ -68,7 +69,7 @@ impl Machine {
     }
 
     /// Whether the monitor may have the drive.
-    pub fn is_free(&self) -> bool
+    pub(crate) fn is_free(&self) -> bool
         ensures { result ≡ true → is_free (device_of self.now.drive).file ≡ true }
     {
         let file = *self.drive.file();
@@ -80,7 +81,7 @@ impl Machine {
     }
 
     /// The word in all places of a sector's durable value; FFFFh where they aren't the same.
-    pub fn durable(&mut self, sector: u64) -> u16 {
+    pub(crate) fn durable(&mut self, sector: u64) -> u16 {
         let mut value = [0xff; 512];
         if sector < SECTORS {
             let _none_fails = self.drive.durable(sector, &mut value);
@@ -114,7 +115,7 @@ fn filled(word: u16) -> [u8; 512] {
 }
 
 /// Two sectors, one after the other, with one word each in all places, the low byte first.
-pub fn two_sectors(alloc: Global, words: [u16; 2]) -> Result<Vec<u8>, AllocError>
+pub(crate) fn two_sectors(alloc: Global, words: [u16; 2]) -> Result<Vec<u8>, AllocError>
     ensures { IfOk result (λ bytes. length bytes.items ≡ 1024) }
 {
     let [first, second] = words;

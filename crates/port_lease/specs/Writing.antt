@@ -61,8 +61,8 @@ bus_put g b = record (walk_stopped b) { inward = g.inward; pointer = g.pointer }
 abbrev pub bus_started : Bus → Bus → Bus
 bus_started g b = walk_begun (bus_put g b)
 
--- registers with a command of which nothing is done, as a lawful view has them
-pub record IsJustTaken (f : TaskFile) : Type 0 where
+-- registers that may be given with a command, as a lawful view has them where nothing of its command is done
+pub record MayBeGiven (f : TaskFile) : Type 0 where
   pub kept : bit_and f.control CONTROL_BITS ≡ f.control
   pub unheld : has_bit SRST f.control ≡ false
   pub no_error : f.error ≡ 0

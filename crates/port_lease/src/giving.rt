@@ -6,7 +6,7 @@ ghost use Rattle.port_lease.specs.View.{IsLawfulView, IsKept, IsGiven, uses_bus}
 ghost use Rattle.port_lease.specs.Seen.{AnswersAlike, seen_on_guest_side, seen_on_monitor_side};
 ghost use Rattle.port_lease.specs.Sides.{view_kept, view_held, has_own};
 ghost use Rattle.port_lease.specs.Handover.{IsOrdered, after_give, bus_given};
-ghost use Rattle.port_lease.specs.Writing.{IsJustTaken};
+ghost use Rattle.port_lease.specs.Writing.{MayBeGiven};
 ghost use Rattle.ata_taskfile.specs.declared.Phase.TheVariants.{Busy as AtWork};
 ghost use Rattle.ata_taskfile.specs.Order.{inputs, order_of, taken};
 ghost use Rattle.ata_taskfile.specs.Device.{with_bus};
@@ -47,7 +47,7 @@ pub fn give<P: Ports>(side: MonitorSide, ports: &mut P, command: u8) -> GuestSid
 // Begins the view's walk, where the command uses the bus master.
 fn give_bus<P: Ports>(view: &View, ports: &mut P)
     requires lawful { IsLawfulView view.now }
-    requires fresh { is_just_taken view.now.file.phase ≡ true }
+    requires taken { is_just_taken view.now.file.phase ≡ true }
     requires walking { uses_bus view.now ≡ true → is_some view.now.bus.walk ≡ true }
     ensures given { let d = P.device ports.old in
         P.device ports.new ≡ with_bus (bus_given view.now d.bus) d }
@@ -61,7 +61,7 @@ fn give_bus<P: Ports>(view: &View, ports: &mut P)
 // Puts a view's registers into the drive, and its command.
 fn give_command<P: Ports>(file: &TaskFile, ports: &mut P, command: u8)
     requires free { is_free (P.device ports.old).file ≡ true }
-    requires lawful { IsJustTaken file.now }
+    requires lawful { MayBeGiven file.now }
     requires ordered { file.now.phase
         ≡ AtWork (taken (order_of command (inputs file.now) (P.device ports.old).sectors)) 0 }
     ensures given { let d = P.device ports.old in
