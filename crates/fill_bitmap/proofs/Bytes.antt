@@ -9,7 +9,7 @@ use Rattle.std.proofs.lemmas.List.FromFn.{fill_by_all, get_or-map-range_with_len
 use Rattle.fill_bitmap.specs.Bits.{byte_of, byte_from, bytes_from, sector_of, has_bit}
 use Rattle.fill_bitmap.specs.BlockSet.{has}
 
--- so many bits make a number below that power of two
+-- n bits make a number below 2 ^ n
 below_power : (n : ℕ) (bits : List Bool) → byte_of (take n bits) < 2 ^ n
 below_power zero bits = omega arith
 below_power (suc n) [] = let most : 0 < 2 ^ suc n = omega (arith, one-le-pow (suc n) 2 (omega arith)) in most
@@ -48,7 +48,7 @@ pub bytes_are : (n b : ℕ) (set : List Bool) (bytes : List ℕ) → length byte
 unfolding bytes_from
 bytes_are n b set bytes long each = fill_by_all (λ i. byte_from (b + 8 * i) set) bytes n 0 long each
 
--- a byte so made has these bits, the lowest first
+-- a byte of some bits has these, the lowest first
 pub bit_of_byte : (bits : List Bool) (n : ℕ) → (bit_at (byte_of bits) n == 1) ≡ get_or bits n false
 bit_of_byte [] n = rw bit_at-zero refl
 bit_of_byte (true ∷ bits) zero =
@@ -64,7 +64,7 @@ bit_of_byte (false ∷ bits) (suc n) =
     let half : (0 + 2 * byte_of bits) / 2 ≡ byte_of bits = omega arith in
     rw (bit_at-suc (0 + 2 * byte_of bits) n, half) (bit_of_byte bits n)
 
--- one of the bytes
+-- one of the bytes of the blocks from a place on
 byte_in : (n b : ℕ) (set : List Bool) (i : ℕ) → i < n → get_or (bytes_from n b set) i 0 ≡ byte_from (b + 8 * i) set
 unfolding bytes_from
 byte_in n b set i inside = get_or-map-range_with_len (λ i. byte_from (b + 8 * i) set) 0 n i i 0 inside (omega arith)

@@ -69,7 +69,7 @@ length-with_sectors (suc k) area disk set =
     length-with_sector k (bitmap_sector area disk k) (with_sectors k area disk set)
     ∙ length-with_sectors k area disk set
 
--- what the first so many sectors give
+-- what a set of no block has, once the bits of the first so many sectors of the bitmap are added
 has-with_sectors : (k : ℕ) (area : Area) (disk : List (List ℕ)) (n b : ℕ) → b < n
     → has (with_sectors k area disk (empty_set n)) b ≡ (nat_lt b (k * 4096) && says_stored area disk b)
 has-with_sectors zero area disk n b inside =
@@ -86,7 +86,7 @@ has-with_sectors (suc k) area disk n b inside =
 all_sectors : (n b : ℕ) → b < n → nat_lt b (div_ceil n 4096 * 4096) ≡ true
 all_sectors n b inside = lt-ltb b (div_ceil n 4096 * 4096) (omega arith)
 
--- all of them give the stored blocks
+-- all sectors of the bitmap give the stored blocks
 pub added_all : (area : Area) (id : ℕ) (disk : List (List ℕ)) → HasHeader area id disk
     → with_sectors (bitmap_sectors_of area) area disk (empty_set (blocks_of area)) ≡ stored_blocks area id disk
 added_all area id disk header =

@@ -37,6 +37,6 @@ loaded_nested k sector s nested = record {
   frozen_filled = within_kept k sector s.frozen s.filled nested.frozen_blocks nested.frozen_filled;
 }
 
--- as many blocks as before
+-- a bitmap to which a sector was added has as many blocks as before
 pub blocks_kept : (k : ℕ) (sector : List ℕ) (s : Sets) → blocks_in (loaded k sector s) ≡ blocks_in s
 blocks_kept k sector s = length-with_sector k sector s.filled

@@ -30,7 +30,7 @@ held_inside set b held = elim (cases_lt b (length set)) [
   | inr past ↦ let none = get_or_past set b false past in absurd (cc)
 ]
 
--- as many as the image has blocks
+-- the set of the stored blocks has a place for each block of the image
 pub length-stored_blocks : (area : Area) (id : ℕ) (disk : List (List ℕ))
     → length (stored_blocks area id disk) ≡ blocks_of area
 length-stored_blocks area id disk =

@@ -15,24 +15,24 @@ use Rattle.plain_drive.specs.Cells.{value_at, ForgetsOld}
 use Rattle.fill_store.specs.Cells.{HasBits, HasBitsBetween, KeepsBits}
 use Rattle.fill_store.proofs.Values.{each_map, each_written, other_written, length-appended, each_flushed, flush_forgets, each_forgets}
 
--- the newest values stay where older ones were forgotten
+-- the newest values of the bitmap's sectors stay where older ones were forgotten
 pub bits_forget : (n : ℕ) (bytes : ℕ → List ℕ) (area : Area) (old new : List Cell) → ForgetsOld old new
     → HasBits n bytes area old → HasBits n bytes area new
 bits_forget n bytes area old new forgets bits k below = forgets.newest (sector_of_bits area k) ∙ bits k below
 
--- and where a sector elsewhere is written
+-- the newest values of the bitmap's sectors stay where a sector below the reserved ones is written
 pub bits_elsewhere : (n : ℕ) (bytes : ℕ → List ℕ) (area : Area) (sector : ℕ) (value : List ℕ) (cells : List Cell)
     → sector < reserved_of area → HasBits n bytes area cells → HasBits n bytes area (appended sector value cells)
 bits_elsewhere n bytes area sector value cells elsewhere bits k below =
     other_written sector (sector_of_bits area k) value cells (λ e. omega arith) ∙ bits k below
 
--- and those before the sector that is written
+-- a write to a sector of the bitmap leaves the newest values of those before it
 pub bits_stand : (k : ℕ) (bytes : ℕ → List ℕ) (area : Area) (cells : List Cell) → HasBits k bytes area cells
     → HasBits k bytes area (appended (sector_of_bits area k) (bytes k) cells)
 bits_stand k bytes area cells bits j below =
     other_written (sector_of_bits area k) (sector_of_bits area j) (bytes k) cells (λ e. omega arith) ∙ bits j below
 
--- then there is one more
+-- behind a write to the next sector of the bitmap, one more has its bytes
 pub one_more : (k : ℕ) (bytes : ℕ → List ℕ) (area : Area) (cells : List Cell) → sector_of_bits area k < length cells
     → HasBits k bytes area cells → HasBits (k + 1) bytes area (appended (sector_of_bits area k) (bytes k) cells)
 one_more k bytes area cells there bits j below = elim (cases_lt j k) [
@@ -54,7 +54,7 @@ keeps_forgets area id least most old new forgets kept = record {
       (kept.bits k inside);
 }
 
--- and where a sector elsewhere is written
+-- where a sector below the reserved ones is written, what a cut may leave stays between its sets
 pub keeps_elsewhere : (area : Area) (id : ℕ) (least most : List Bool) (sector : ℕ) (bytes : List ℕ) (cells : List Cell)
     → KeepsBits area id least most cells → sector < reserved_of area
     → KeepsBits area id least most (appended sector bytes cells)

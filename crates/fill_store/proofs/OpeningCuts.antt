@@ -29,7 +29,7 @@ others_left disk o sets cells outcome opens left s below =
     let reserved = opens.sectors.reserved in
     left_by_cut (λ value. value ≡ sector_at s disk) s cells outcome (omega arith) (opens.sectors.others s below) left
 
--- the header old or the run's
+-- a cut leaves the header old or the run's
 pub either_header_left : (disk : List (List ℕ)) (o : OpeningState) (sets : Sets) (cells : List Cell)
     (outcome : List (List ℕ))
     → Opens disk o sets cells
@@ -41,7 +41,7 @@ either_header_left disk o sets cells outcome opens left =
     (reserved_of o.area) cells outcome
     (omega arith) opens.sectors.header left
 
--- and each sector of the bitmap old or zeros
+-- a cut leaves each sector of the bitmap old or zeros
 pub either_bits_left : (disk : List (List ℕ)) (o : OpeningState) (sets : Sets) (cells : List Cell)
     (outcome : List (List ℕ))
     → Opens disk o sets cells
@@ -139,7 +139,7 @@ same_map f g n d same =
     fill_by_all g (map f (range_with_len 0 n)) n d (length-map-range_with_len f 0 n)
     (λ k inside. get_or-map-range_with_len f 0 n k k d inside (omega arith) ∙ same k inside)
 
--- and what a guest finds
+-- a cut in an opening leaves what a guest finds
 pub opening_view : (disk : List (List ℕ)) (o : OpeningState) (sets : Sets) (cells : List Cell)
     (image outcome : List (List ℕ))
     → Opens disk o sets cells
@@ -178,14 +178,14 @@ ended_stored disk o sets cells left opens none =
     ap (λ s. s.stored) all ∙ sym (cut_stores_set o.area o.id (stored_blocks o.area o.id disk) cells
     (map current cells) kept left)
 
--- and so are the filled ones
+-- the filled blocks of a bitmap whose opening has ended are its stored ones
 pub ended_filled : (disk : List (List ℕ)) (o : OpeningState) (sets : Sets) (cells : List Cell)
     → Opens disk o sets cells → next_in_opening o ≡ None → sets.filled ≡ sets.stored
 ended_filled disk o sets cells opens none =
     let (all, kept) = at_end o.area o.id disk o.step sets cells opens.bitmap opens.step none in
     ap (λ s. s.filled) all ∙ sym (ap (λ s. s.stored) all)
 
--- a cut leaves these
+-- a cut leaves the stored blocks of a bitmap whose opening has ended
 pub ended_kept : (disk : List (List ℕ)) (o : OpeningState) (sets : Sets) (cells : List Cell)
     → Opens disk o sets cells → next_in_opening o ≡ None → KeepsBits o.area o.id sets.stored sets.stored cells
 ended_kept disk o sets cells opens none =

@@ -152,7 +152,7 @@ keeps_old area id disk cells leaves header bits = record {
       (λ value same. disk_bits area id disk k value header same) (bits k inside);
 }
 
--- and one with the header and zeros keeps no block
+-- a drive with the run's header and zeros for its bitmap keeps no block
 keeps_empty : (area : Area) (id : ℕ) (disk : List (List ℕ)) (cells : List Cell) → LeavesOldOrNew area id disk cells
     → HasOnlyZeros area cells → Each (λ value. value ≡ header_of area id) (reserved_of area) cells
     → KeepsBits area id (empty_set (blocks_of area)) (empty_set (blocks_of area)) cells
@@ -370,7 +370,7 @@ opens_at_power_on area id disk suitable some long =
       );
     }
 
--- the same of the states before and after, as they are called
+-- an opening goes on where its job ended, said of its states before and after
 pub opens_ended : (ok : Bool) (disk : List (List ℕ)) (o after : OpeningState) (buffer : List ℕ)
     (sets sets_after : Sets) (old new : List Cell)
     → IsReached o.area o.step → after ≡ opening_after ok (take 512 buffer) o

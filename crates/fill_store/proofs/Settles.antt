@@ -63,7 +63,7 @@ settles_elsewhere id durable s sets sector bytes cells settles elsewhere = recor
   step = holds_elsewhere s.area durable s.step sets sector bytes cells elsewhere settles.step;
 }
 
--- from one sector on, once those before it are written
+-- bits are written from one sector of the bitmap on, once those before it are
 bits_on : (area : Area) (durable : List Bool) (k : ℕ) (sets : Sets) (cells : List Cell) → durable ≡ sets.frozen
     → HasFrozen k area sets cells
     → HoldsAt area durable (bits_from area k) sets cells
@@ -228,7 +228,7 @@ settles_at_first area id durable sets cells nested blocks within kept = record {
   step = within;
 }
 
--- the same of the states before and after, as they are called
+-- a settling goes on, or ends, where its job ended, said of its states before and after
 pub settles_ended : (ok : Bool) (id : ℕ) (durable : List Bool) (s after : SettleState) (sets sets_after : Sets)
     (old new : List Cell)
     → IsReached (bitmap_sectors_of s.area) s.step → after ≡ settle_after ok s

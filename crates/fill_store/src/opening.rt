@@ -104,7 +104,7 @@ impl Opening {
             Opens disk self.new bitmap.new new }
     {
         self.step = step_behind(&self.area, self.id, self.step, ok, bitmap, sector);
-        fill(&self.area, self.id, self.step, sector);
+        put_bytes(&self.area, self.id, self.step, sector);
     }
 }
 
@@ -229,13 +229,13 @@ fn zeros_from(area: &Area, k: u32) -> OpeningStep
 }
 
 // Puts the bytes of a step that writes at the front of the buffer.
-fn fill(area: &Area, id: u64, step: OpeningStep, buffer: &mut [u8])
+fn put_bytes(area: &Area, id: u64, step: OpeningStep, buffer: &mut [u8])
     requires { SECTOR_BYTES ≤ length buffer.old }
     ensures buffer { buffer.new ≡ buffer_with (bytes_at area.now id step) buffer.old }
 {
     match step {
-        OpeningStep::WriteZeros(_) => fill_zeros(buffer),
-        OpeningStep::WriteHeader => fill_header(area, id, buffer),
+        OpeningStep::WriteZeros(_) => put_zeros(buffer),
+        OpeningStep::WriteHeader => put_header(area, id, buffer),
         OpeningStep::ReadHeader
         | OpeningStep::ReadBits(_)
         | OpeningStep::FlushZeros
@@ -246,7 +246,7 @@ fn fill(area: &Area, id: u64, step: OpeningStep, buffer: &mut [u8])
 
 // Puts a sector of zeros at the front of the buffer.
 #[tactic(auto, unfolding(crate::specs::Sectors::zero_bits))]
-fn fill_zeros(buffer: &mut [u8])
+fn put_zeros(buffer: &mut [u8])
     requires { SECTOR_BYTES ≤ length buffer.old }
     ensures buffer { buffer.new ≡ buffer_with (Some zero_bits) buffer.old }
 {
@@ -254,7 +254,7 @@ fn fill_zeros(buffer: &mut [u8])
 }
 
 // Puts the run's header at the front of the buffer.
-fn fill_header(area: &Area, id: u64, buffer: &mut [u8])
+fn put_header(area: &Area, id: u64, buffer: &mut [u8])
     requires { SECTOR_BYTES ≤ length buffer.old }
     ensures buffer { buffer.new
         ≡ buffer_with (bytes_at area.now id OpeningStep.WriteHeader) buffer.old }

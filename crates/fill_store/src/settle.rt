@@ -97,7 +97,7 @@ impl Settle {
             Settles id (durable_after ok self.old bitmap.old durable) self.new bitmap.new new }
     {
         self.step = step_behind(&self.area, self.step, ok, bitmap);
-        fill(self.step, bitmap, sector);
+        put_bytes(self.step, bitmap, sector);
         ok
     }
 }
@@ -159,19 +159,19 @@ fn bits_from(area: &Area, k: u32) -> SettleStep
 }
 
 // Puts the bytes of a step that writes at the front of the buffer.
-fn fill(step: SettleStep, bitmap: &Bitmap, buffer: &mut [u8])
+fn put_bytes(step: SettleStep, bitmap: &Bitmap, buffer: &mut [u8])
     requires reached { IsReached (sectors_in bitmap.now) step }
     requires room { SECTOR_BYTES ≤ length buffer.old }
     ensures buffer { buffer.new ≡ buffer_with (bytes_at step bitmap.now) buffer.old }
 {
     match step {
-        SettleStep::WriteBits(k) => fill_bits(k, bitmap, buffer),
+        SettleStep::WriteBits(k) => put_bits(k, bitmap, buffer),
         SettleStep::FlushData | SettleStep::FlushBits | SettleStep::Nothing => {}
     }
 }
 
 // Puts the bits of the frozen blocks in the bitmap's sector `k` at the front of the buffer.
-fn fill_bits(k: u32, bitmap: &Bitmap, buffer: &mut [u8])
+fn put_bits(k: u32, bitmap: &Bitmap, buffer: &mut [u8])
     requires there { k < sectors_in bitmap.now }
     requires room { SECTOR_BYTES ≤ length buffer.old }
     ensures buffer { buffer.new

@@ -6,13 +6,13 @@ use Rattle.plain_drive.specs.Words.{bytes_of}
 use Rattle.plain_drive.proofs.Blocks.{length_bytes, bytes_pushed}
 use Rattle.own_pio.specs.Moving.{put_over}
 
--- no byte yet
+-- no byte is put over others yet
 pub over_none : (n : ℕ) (ys : List ℕ) → put_over n [] ys ≡ ys
 over_none n [] = refl
 over_none zero (y ∷ ys) = refl
 over_none (suc n) (y ∷ ys) = ap (λ t. y ∷ t) (over_none n ys)
 
--- one byte more
+-- one byte more is put over others
 over_more : (n : ℕ) (xs ys : List ℕ) (v m : ℕ) → m ≡ n + length xs → m < length ys
     → set (put_over n xs ys) m v ≡ put_over n (xs ++ v ∷ []) ys
 over_more n xs [] v m is room = absurd (omega arith)
@@ -24,7 +24,7 @@ over_more zero (x ∷ xs) (y ∷ ys) v (suc m) is room = ap (λ t. x ∷ t)
 over_more (suc n) xs (y ∷ ys) v zero is room = absurd (omega arith)
 over_more (suc n) xs (y ∷ ys) v (suc m) is room = ap (λ t. y ∷ t) (over_more n xs ys v m (omega arith) (omega arith))
 
--- one word more
+-- one word more is put over others, the low byte first
 pub word_over : (i start low high : ℕ) (words bytes over : List ℕ) → length words ≡ 256 → i < 256
     → start + 512 ≤ length bytes
     → low ≡ get_or words i 0 % 256 → high ≡ get_or words i 0 / 256

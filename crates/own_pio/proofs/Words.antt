@@ -14,7 +14,7 @@ one_word : (phase : Phase) (n : ℕ) (block : List ℕ) → is_given phase ≡ t
     → word_in (phase_left phase (suc n)) block ≡ get_or block (256 - suc n) 0
 one_word phase n block given = grind arith
 
--- all words are left
+-- a whole block that waits has all its words left
 none_read : (phase : Phase) → is_given phase ≡ true → left_in phase ≡ 256 → phase_left phase 256 ≡ phase
 none_read phase given left = grind arith
 

@@ -25,7 +25,7 @@ value_alike reg.Alternate c f = refl
 value_alike reg.BusCommand c f = refl
 value_alike reg.BusStatus c f = refl
 
--- so registers that differ in it alone, over the same bus master and line, answer alike
+-- registers that differ in the byte of the last command alone, over the same bus master and line, answer alike
 alike : (f : TaskFile) (c : ℕ) (b b' : Bus) (l l' : Bool) → b' ≡ b → l' ≡ l
     → AnswersAlike (record { file = f; bus = b; line = l })
     (record { file = record f { command = c }; bus = b'; line = l' })
@@ -41,7 +41,7 @@ given : (moves : Bool) (v : View) (b : Bus) → uses_bus v ≡ moves
 given true v b e = rw e refl
 given false v b e = rw e refl
 
--- after a give
+-- each read answers alike after a give
 pub give_alike : (v : View) (c : ℕ) (d e : Device) → d.file.pending ≡ false → v.file.pending ≡ false
     → e ≡ after_give v c d
     → AnswersAlike (seen_on_monitor_side v d) (seen_on_guest_side v e)
@@ -50,7 +50,7 @@ give_alike v c d e low unpended is =
     rw is (alike v.file c (bus_beside v.bus d.bus) (bus_on_guest_side v (bus_given v d.bus)) (line d.file)
     (line (record v.file { command = c })) (given (uses_bus v) v d.bus refl) l)
 
--- after a removal
+-- each read answers alike after a removal
 pub remove_alike : (v : View) (d e : Device) → d.file.pending ≡ false → v.file.pending ≡ false → v.bus.error ≡ false
     → e ≡ after_remove v d
     → AnswersAlike (seen_on_monitor_side v d) (seen_of e)

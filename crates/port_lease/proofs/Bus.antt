@@ -52,7 +52,7 @@ walk_at_top : (walk : Option ℕ) → moved_by walk ≡ 0 → (walking : Bool) �
 walk_at_top None none walking is = rw is refl
 walk_at_top (Some moved) none walking is = rw (is, none) refl
 
--- so the registers, the pointer and whether a walk is running tell all of it
+-- the registers, the pointer and whether a walk is running tell all of a bus master whose walk moved nothing
 pub all_read : (b : Bus) (start inward active error interrupt walking : Bool) (pointer : ℕ) → moved_by b.walk ≡ 0
     → start ≡ b.start → inward ≡ b.inward → active ≡ b.active → error ≡ b.error → interrupt ≡ b.interrupt
     → pointer ≡ b.pointer → walking ≡ is_some b.walk

@@ -40,7 +40,7 @@ status-seen : (v : ℕ) (moves : Bool) (kept b : Bus) → seen moves (status_wri
 unfolding seen
 status-seen v moves kept b = grind arith
 
--- a read
+-- a guest's read of a register answers as that of the one device
 pub read_seen : (r : Reg) (v : View) (d e : Device) → e ≡ after_read8 r d
     → on_guest_side v e ≡ after_read8 r (on_guest_side v d)
 unfolding seen
@@ -48,7 +48,7 @@ read_seen r v d e is =
     rw is (ap (λ b. record d { file = after_read r d.file; bus = b })
     (raised-seen (line d.file) (line (after_read r d.file)) (uses_bus v) v.bus d.bus))
 
--- a write to the task file
+-- a guest's write to the task file is the one device's
 wrote-seen : (w : Wrote) (f : TaskFile) (v : View) (d : Device) → IsGiven v d
     → on_guest_side v (after_wrote w f d) ≡ after_wrote w f (on_guest_side v d)
 unfolding seen
@@ -66,7 +66,7 @@ wrote-seen ResetBegun f v d given =
 kept-phase : (r : Reg) (x : ℕ) (phase : Phase) (f : TaskFile) → (file_kept r x phase f).phase ≡ f.phase
 kept-phase r x phase f = grind arith
 
--- any write
+-- a guest's write to any register is the one device's
 write-seen : (r : Reg) (x : ℕ) (v : View) (d : Device) → IsGiven v d
     → on_guest_side (record v { bus = bus_kept r x v }) (reached v (access.Write8 r x) d) ≡ after_write8 r x
     (on_guest_side v d)

@@ -19,7 +19,7 @@ masks c = ap (λ n. not (n == 0)) (and_assoc 2 c 127)
 twice : (c : ℕ) → bit_and (bit_and c 127) 127 ≡ bit_and c 127
 twice c = and_assoc 127 c 127
 
--- so the line stays
+-- a write to the command block that is no command leaves the line
 stored-line : (r : Reg) (v : ℕ) (f : TaskFile) → is_plain_register r ≡ true → line (stored r v f) ≡ line f
 stored-line reg.Error v f plain = ap (λ b. f.pending && not b) (masks f.control)
 stored-line reg.Count v f plain = ap (λ b. f.pending && not b) (masks f.control)
@@ -32,7 +32,7 @@ stored-line reg.Alternate v f plain = cc
 stored-line reg.BusCommand v f plain = cc
 stored-line reg.BusStatus v f plain = cc
 
--- and the bus master takes no note of it
+-- a bus master takes no note of a line that stays
 unraised : (was : Bool) (b : Bus) → raised was was b ≡ b
 unraised true b = refl
 unraised false b = refl
@@ -41,7 +41,7 @@ put-file : (f : TaskFile) (d : Device) → line f ≡ line d.file → with_file 
 put-file f d same = ap (λ l. record d { file = f; bus = raised (line d.file) l d.bus }) same
     ∙ ap (λ b. record d { file = f; bus = b }) (unraised (line d.file) d.bus)
 
--- such a write as it is seen from outside
+-- a write to the command block that is no command, as the device makes it
 plain_write : (r : Reg) (v : ℕ) (d : Device) (work : Bool) → is_plain_register r ≡ true → is_at_work d.file.phase ≡ work
     → after_write8 r v d ≡ (if work then d else record d { file = stored r v d.file })
 plain_write reg.Error v d true plain is = rw is refl
@@ -70,7 +70,7 @@ plain_write reg.BusStatus v d work plain is = cc
 pub plainly : (r : Reg) (v : ℕ) (d : Device) → is_plain_register r ≡ true → after_write8 r v d ≡ plainly_written r v d
 plainly r v d plain = plain_write r v d (is_at_work d.file.phase) plain refl
 
--- such a write where the drive was asked before whether it is at work
+-- a write to the command block that is no command, where the drive was asked before whether it is at work
 cleared-stored : (r : Reg) (v : ℕ) (f : TaskFile) → is_plain_register r ≡ true
     → stored r v (hob_cleared f) ≡ stored r v f
 cleared-stored reg.Error v f plain = ap (λ c. record f { control = c; features = v }) (twice f.control)

@@ -77,7 +77,7 @@ pub step-given : (v : View) (s : Step) (p : Plain) → IsGiven v p.device → Is
 step-given v step.Good p given = λ calm. stepped-moves p.device.file.phase p refl (given calm)
 step-given v step.Bad p given = λ calm. failed-moves p.device.file.phase p refl (given calm)
 
--- a free drive has calm command
+-- a free drive is in Idle
 is_idle : (phase : Phase) (p : Plain) → p.device.file.phase ≡ phase → is_free p.device.file ≡ true → phase ≡ Idle
 is_idle phase p e free = grind arith
 
