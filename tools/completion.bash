@@ -31,8 +31,8 @@ _bm() {
         return
     fi
     case ${COMP_WORDS[1]}:$word in
-        explain:-*)
-            mapfile -t COMPREPLY < <(compgen -W "--timing" -- "$word") ;;
+        explain:-*) mapfile -t COMPREPLY < <(compgen -W "--timing" -- "$word") ;;
+        picture:-*) mapfile -t COMPREPLY < <(compgen -W "--lines" -- "$word") ;;
         explain:* | picture:* | run:*)
             mapfile -t COMPREPLY < <(compgen -d -- "${word:-examples/}") ;;
         *) mapfile -t COMPREPLY < <(compgen -f -- "$word") ;;
