@@ -10,7 +10,7 @@ use Rattle.bm_host.proofs.OutsideLaws.{same_counts_trans}
 use Rattle.plain_drive.specs.Physical.{Physical}
 use Rattle.plain_drive.specs.Plain.{sectors_in}
 use Rattle.plain_drive.proofs.Sectors.{sectors_in-more}
-use Rattle.bmcast.specs.Kept.{KeepsFilesBut}
+use Rattle.bmcast.specs.Kept.{KeepsFilesBut, KeepsLooked}
 use Rattle.bmcast.specs.Waiting.{KeepsWaiting, Waits}
 use Rattle.bmcast.proofs.WaitingLaws.{Waits-none, Waits-all}
 
@@ -18,6 +18,7 @@ use Rattle.bmcast.proofs.WaitingLaws.{Waits-none, Waits-all}
 pub record ReadsFront (old new : Outside) (size : ℕ) (list : List (List ℕ)) (sectors : ℕ) : Type 0 where
   pub counts : SameCounts old new
   pub same : SameBytes old new
+  pub looked : KeepsLooked old new
   pub count : length list ≡ size
   pub front : IfTold (old.told Disk) (λ disk. take sectors list ≡ sectors_in sectors disk)
 
@@ -25,6 +26,7 @@ pub record ReadsFront (old new : Outside) (size : ℕ) (list : List (List ℕ)) 
 pub record WritesFront (old new : Outside) (before now : Physical) (waiting : List ℕ) (sectors : ℕ) : Type 0 where
   pub counts : SameCounts old new
   pub files : KeepsFilesBut Out old new
+  pub looked : KeepsLooked old new
   pub drive : now ≡ before
   pub waits : (text : List ℕ) → Waits Out [] old text
       → Waits Out waiting new (text ++ concat (take sectors before.kept.durable))
@@ -37,11 +39,12 @@ concat-more list i below = rw (take_more list i []) (concat-append (take i list)
 
 pub WritesFront-more : (old now new : Outside) (before mid after : Physical) (waiting more : List ℕ) (i : ℕ)
     → i < length before.kept.durable
-    → WritesFront old now before mid waiting i → SameCounts now new → KeepsFilesBut Out now new → after ≡ mid
+    → WritesFront old now before mid waiting i → SameCounts now new → KeepsFilesBut Out now new → KeepsLooked now new → after ≡ mid
     → ((text : List ℕ) → Waits Out waiting now text → Waits Out more new (text ++ slice_index_or mid.kept.durable i []))
     → WritesFront old new before after more (i + 1)
-WritesFront-more old now new before mid after waiting more i below so counts files same waits = record {
+WritesFront-more old now new before mid after waiting more i below so counts files looked same waits = record {
   counts = same_counts_trans old now new so.counts counts;
+  looked = looked ∙ so.looked;
   files = λ role other. files role other ∙ so.files role other;
   drive = same ∙ so.drive;
   waits = λ text was. subst (Waits Out more new)

@@ -1,6 +1,7 @@
 -- The answer is the one that words, lengths and schedule owe, where nothing failed.
 use Rattle.std.proofs.Common.{◌≡◌, ℕ, List, length, Option, Some, None, inl, inr, refl, sym, ap, subst, ◌∙◌, arith}
 use Rattle.std.specs.Option.{IsSomeAnd, option_map}
+use Rattle.std.specs.Prelude.{IsSome}
 use Rattle.std.proofs.lemmas.Option.{none-some, same_Some}
 use Rattle.bm_host.specs.declared.Role.TheVariants.{Image, Disk, Schedule}
 use Rattle.bm_host.specs.Outside.{Outside, IfTold, Reads, Writes}
@@ -10,14 +11,15 @@ use Rattle.schedule_text.specs.declared.Event.{Event}
 use Rattle.schedule_text.specs.declared.LineFault.{LineFault}
 use Rattle.schedule_text.specs.Schedule.{IsSchedule}
 use Rattle.schedule_text.proofs.Readings.{bad_line_once, no_bad_line}
-use Rattle.fill_bitmap.specs.declared.lengths.Unsuitable.{Unsuitable}
 use Rattle.fill_bitmap.specs.Lengths.{refusal_of}
 use Rattle.schedule_text.specs.BadLine.{FailsAt}
-use Rattle.bmcast.specs.Lengths.{CanRun, IfLengths, IsNotYet, IsUnsuitable, why_of}
+use Rattle.bmcast.specs.Chosen.{Chooses}
+use Rattle.bmcast.specs.Lengths.{CanRun, IsNotYet, IsUnsuitable, why_of}
 use Rattle.bmcast.specs.Owed.{Offers, IsOwed, AnswersWhatIsOwed}
 use Rattle.bmcast.specs.Run.{RunIsBad, RunIsDone}
-use Rattle.bmcast.specs.Status.{Chooses, HasItsCause, HasItsReason, OnBadLineStatus, OnDone, status_of}
+use Rattle.bmcast.specs.Status.{HasItsCause, HasItsReason, OnBadLineStatus, OnDone, status_of}
 use Rattle.bmcast.specs.declared.Why.{Why}
+use Rattle.bmcast.specs.declared.Why.TheVariants as because
 use Rattle.bmcast.specs.declared.stop.Stop.{Stop}
 use Rattle.bmcast.specs.declared.stop.Stop.TheVariants as stop
 use Rattle.bmcast.specs.declared.Status.{Status}
@@ -29,37 +31,59 @@ both_told : {R : Type 0} (o : Option (List ℕ)) (P Q : List ℕ → Type 0) →
 both_told None P Q joined p q = absurd q
 both_told (Some x) P Q joined p q = joined x p q
 
+-- a role that is told has one length
+one_length : (told : Option (List ℕ)) (m n : ℕ) → IsSome told → IfTold told (λ bytes. length bytes ≡ m)
+    → IfTold told (λ bytes. length bytes ≡ n) → m ≡ n
+one_length None m n there one other = absurd cc
+one_length (Some bytes) m n there one other = sym one ∙ other
+
 -- two facts of the lengths
 both_lengths : {R : Type 0} (words : List (List ℕ)) (o : Outside) (P Q : ℕ → ℕ → ℕ → Type 0)
     → ((block image disk : ℕ) → P block image disk → Q block image disk → R) → Chooses words o P → Offers words o Q → R
 both_lengths words o P Q joined chosen offered =
-    both_told (o.told Image) _ _
-    (λ image p q. both_told (o.told Disk) _ _ (λ disk p q. joined offered.choice.sizes.block (length image)
-    (length disk) p q) p q)
-    (subst (λ (choice : Choice). IfLengths o (P choice.sizes.block))
-    (says_once words chosen.choice offered.choice chosen.says offered.says) chosen.holds)
-    offered.holds
+    let one = chosen.holds in
+    let other = offered.chooses.holds in
+    let block : chosen.choice.sizes.block ≡ offered.chooses.choice.sizes.block
+    = ap (λ (choice : Choice). choice.sizes.block)
+    (says_once words chosen.choice offered.chooses.choice chosen.says offered.chooses.says) in
+    let image : one.image ≡ other.image
+    = one_length (o.told Image) one.image other.image offered.image one.image_told other.image_told in
+    let disk : one.disk ≡ other.disk
+    = one_length (o.told Disk) one.disk other.disk offered.disk one.disk_told other.disk_told in
+    joined offered.chooses.choice.sizes.block other.image other.disk
+    (subst (λ b. P b other.image other.disk) block
+    (subst (λ i. P chosen.choice.sizes.block i other.disk) image
+    (subst (λ d. P chosen.choice.sizes.block one.image d) disk one.holds)))
+    other.holds
 
--- lengths that are refused for a reason aren't suitable
-refused_suitable : (reason : Why) (refusal : Option Unsuitable) → option_map why_of refusal ≡ Some reason
-    → refusal ≡ None → ⊥
-refused_suitable reason None refused none = none-some reason refused
-refused_suitable reason (Some why) refused none = none-some why (sym none)
+-- lengths are refused for one reason, and those of a header never are
+refused_for : (reason : Why) (block image disk : ℕ) → IsUnsuitable reason block image disk
+    → option_map why_of (refusal_of image disk block) ≡ Some reason
+refused_for because.ImageLength block image disk is = ap (option_map why_of) is
+refused_for because.DiskLength block image disk is = ap (option_map why_of) is
+refused_for because.TooSmall block image disk is = ap (option_map why_of) is
+refused_for because.TooLarge block image disk is = ap (option_map why_of) is
+refused_for never block image disk is = absurd is
 
--- lengths are refused for one reason
 one_reason : (a b : Why) (block image disk : ℕ) → IsUnsuitable a block image disk → IsUnsuitable b block image disk
     → a ≡ b
-one_reason a b block image disk is other = same_Some a b (sym is ∙ other)
+one_reason a b block image disk is other = same_Some a b
+    (sym (refused_for a block image disk is) ∙ refused_for b block image disk other)
+
+-- lengths that are refused for a reason aren't suitable
+refused_suitable : (reason : Why) (block image disk : ℕ) → IsUnsuitable reason block image disk
+    → refusal_of image disk block ≡ None → ⊥
+refused_suitable reason block image disk refused none =
+    none-some reason (sym (ap (option_map why_of) none) ∙ refused_for reason block image disk refused)
 
 unsuitable_can_run : (reason : Why) (block image disk : ℕ) → IsUnsuitable reason block image disk
     → CanRun block image disk → ⊥
-unsuitable_can_run reason block image disk refused can = refused_suitable reason (refusal_of image disk block)
-    refused can.suitable
+unsuitable_can_run reason block image disk refused can = refused_suitable reason block image disk refused can.suitable
 
 unsuitable_not_yet : (reason : Why) (block image disk : ℕ) → IsUnsuitable reason block image disk
     → IsNotYet block image disk → ⊥
-unsuitable_not_yet reason block image disk refused later = refused_suitable reason
-    (refusal_of image disk block) refused later.suitable
+unsuitable_not_yet reason block image disk refused later = refused_suitable reason block image disk
+    refused later.suitable
 
 not_yet_can_run : (block image disk : ℕ) → IsNotYet block image disk → CanRun block image disk → ⊥
 not_yet_can_run block image disk later can = let filled = later.filled in let empty = can.empty in omega arith
@@ -68,10 +92,10 @@ not_yet_can_run block image disk later can = let filled = later.filled in let em
 usage_owed : (words : List (List ℕ)) (old : Outside) (owed : Status) → HasItsReason status.Usage words old
     → IsOwed owed words old → status.Usage ≡ owed
 usage_owed words old status.Usage none is = refl
-usage_owed words old (status.Unsuitable reason) none is = absurd (none is.choice is.says)
-usage_owed words old status.NotYet none is = absurd (none is.choice is.says)
-usage_owed words old (status.BadLine n kind) none is = absurd (none is.0.choice is.0.says)
-usage_owed words old status.Done none is = absurd (none is.0.choice is.0.says)
+usage_owed words old (status.Unsuitable reason) none is = absurd (none is.chooses.choice is.chooses.says)
+usage_owed words old status.NotYet none is = absurd (none is.chooses.choice is.chooses.says)
+usage_owed words old (status.BadLine n kind) none is = absurd (none is.0.chooses.choice is.0.chooses.says)
+usage_owed words old status.Done none is = absurd (none is.0.chooses.choice is.0.chooses.says)
 usage_owed words old never none is = absurd is
 
 -- the answer is that the lengths aren't suitable

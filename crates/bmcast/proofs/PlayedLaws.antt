@@ -18,7 +18,7 @@ use Rattle.plain_run.proofs.Entries.{events_length}
 use Rattle.bmcast.specs.declared.play.Progress.{Progress}
 use Rattle.bmcast.specs.declared.play.Progress.TheVariants as progress
 use Rattle.bmcast.specs.declared.streams.Streams.{Streams}
-use Rattle.bmcast.specs.Kept.{KeepsFiles}
+use Rattle.bmcast.specs.Kept.{KeepsFiles, KeepsLooked}
 use Rattle.bmcast.specs.Streams.{unread, Said, KeepsSaid, Reports}
 use Rattle.bmcast.specs.Played.{HasPlayed, HasTaken, HasDone, HasDoneEnd, HasEnded, IsNextLine, IsPlayed, Leads, HasFailed}
 use Rattle.bmcast.proofs.Told.{IfTold-both, IfTold-weaker, IfTold-same}
@@ -162,15 +162,18 @@ failed_on start s to o new now number kind same said failed = record {
 pub record PlaysOn (from to : Streams) (old new : Outside) (before after : Physical) (number : ℕ) : Type 0 where
   pub counts : SameCounts old new
   pub files : KeepsFiles old new
+  pub looked : KeepsLooked old new
   pub played : (start : Physical) → HasPlayed start from old before 1 → HasPlayed start to new after number
   pub within : number ≤ LAST_LINE
 
 pub PlaysOn-more : (from mid to : Streams) (old now new : Outside) (before between after : Physical) (number : ℕ)
     → PlaysOn from mid old now before between number → SameCounts now new → KeepsFiles now new
+    → KeepsLooked now new
     → ((start : Physical) → HasPlayed start mid now between number → HasPlayed start to new after (number + 1))
     → number ≢ LAST_LINE → PlaysOn from to old new before after (number + 1)
-PlaysOn-more from mid to old now new before between after number on counts files more other = record {
+PlaysOn-more from mid to old now new before between after number on counts files looked more other = record {
   counts = same_counts_trans old now new on.counts counts;
+  looked = looked ∙ on.looked;
   files = λ role other. files role other ∙ on.files role other;
   played = λ start was. more start (on.played start was);
   within = let w = on.within in omega arith;

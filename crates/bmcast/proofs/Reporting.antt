@@ -8,24 +8,26 @@ use Rattle.schedule_text.specs.Report.{line_text}
 use Rattle.plain_run.specs.Entry.{items_text}
 use Rattle.plain_run.proofs.Entries.{items_text-push}
 use Rattle.bmcast.specs.declared.streams.Streams.{Streams}
-use Rattle.bmcast.specs.Kept.{KeepsFiles}
+use Rattle.bmcast.specs.Kept.{KeepsFiles, KeepsLooked}
 use Rattle.bmcast.specs.Streams.{Said, Reports}
 
 -- these lines were appended, and nothing else happened
 pub record ReportsFront (from to : Streams) (old new : Outside) (lines : List ℕ) : Type 0 where
   pub counts : SameCounts old new
   pub files : KeepsFiles old new
+  pub looked : KeepsLooked old new
   pub reports : Reports from to old new lines
 
 pub ReportsFront-line : (from mid to : Streams) (old now new : Outside) (number i : ℕ) (items shown : List Item)
     (d : Item) (bytes : List ℕ)
     → shown ≡ items → i < length shown
     → ReportsFront from mid old now (items_text number (take i items) bytes)
-    → SameCounts now new → KeepsFiles now new
+    → SameCounts now new → KeepsFiles now new → KeepsLooked now new
     → Reports mid to now new (line_text number (get_or shown i d) bytes)
     → ReportsFront from to old new (items_text number (take (i + 1) items) bytes)
-ReportsFront-line from mid to old now new number i items shown d bytes same below so counts files told = record {
+ReportsFront-line from mid to old now new number i items shown d bytes same below so counts files looked told = record {
   counts = same_counts_trans old now new so.counts counts;
+  looked = looked ∙ so.looked;
   files = λ role other. files role other ∙ so.files role other;
   reports = (
     λ text was. subst (Said to new)

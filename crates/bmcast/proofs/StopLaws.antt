@@ -38,18 +38,29 @@ console_kept : (role : Role) (b c : Outside) → OnlyConsole b c → (role ≡ C
 console_kept role b c then (inl console) = subst (λ r. b.write_faults r ≤ c.write_faults r) (sym console) then.console
 console_kept role b c then (inr other) = let same = then.writes role other in omega arith
 
+-- Console's write count doesn't fall until a run stops
+console_until : (why : Stop) (a b : Outside) → Stopped why a b → a.write_faults Console ≤ b.write_faults Console
+console_until (stop.ReadFault role) a b rose = let e = rose.other_side Console in omega arith
+console_until (stop.WriteFault role) a b rose = elim (same_role Console role) [
+  | inl same ↦ subst (λ r. a.write_faults r ≤ b.write_faults r) (sym same) rose.rose.kept
+  | inr other ↦ let e = rose.other_roles Console other in omega arith
+]
+console_until other a b same = let e = same.writes Console in omega arith
+
 -- what a stop owes, and then Console, is what its status owes
 pub caused : (a b c : Outside) (why : Stop) → Stopped why a b → OnlyConsole b c → HasItsCause (status_of why) a c
 caused a b c (stop.ReadFault role) rose then = record {
   rose = subst (λ n. Rose (a.read_faults role) n) (sym (then.reads role)) rose.rose;
   reads = λ r other. then.reads r ∙ rose.other_roles r other;
   writes = λ r other. then.writes r other ∙ rose.other_side r;
+  console = subst (λ n. n ≤ c.write_faults Console) (rose.other_side Console) then.console;
 }
 caused a b c (stop.WriteFault role) rose then = record {
   rose = rose_on (a.write_faults role) (b.write_faults role) (c.write_faults role) rose.rose
       (console_kept role b c then (same_role role Console));
   reads = λ r. then.reads r ∙ rose.other_side r;
   writes = λ r other no_console. then.writes r no_console ∙ rose.other_roles r other;
+  console = let kept = console_until (stop.WriteFault role) a b rose in let more = then.console in omega arith;
 }
 caused a b c other same then = console_after a b c same then
 
@@ -77,15 +88,6 @@ bad_line_from other S P Q step s p = tt
 pub unless_done : (s : Status) {P : Type 0} → P → UnlessDone s P
 unless_done status.Done p = tt
 unless_done other p = p
-
--- Console's write count doesn't fall until a run stops
-console_until : (why : Stop) (a b : Outside) → Stopped why a b → a.write_faults Console ≤ b.write_faults Console
-console_until (stop.ReadFault role) a b rose = let e = rose.other_side Console in omega arith
-console_until (stop.WriteFault role) a b rose = elim (same_role Console role) [
-  | inl same ↦ subst (λ r. a.write_faults r ≤ b.write_faults r) (sym same) rose.rose.kept
-  | inr other ↦ let e = rose.other_roles Console other in omega arith
-]
-console_until other a b same = let e = same.writes Console in omega arith
 
 -- what was told on Console after a run stopped was told since the run began
 pub told_since : (text : List ℕ) (a b c : Outside) (why : Stop) → Stopped why a b → SameConsole a b

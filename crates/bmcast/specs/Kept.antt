@@ -1,8 +1,8 @@
 -- What a run leaves as it was, in each of its steps and by the way in which it ends.
-use Rattle.std.specs.Prelude.{◌≡◌, ◌≢◌}
+use Rattle.std.specs.Prelude.{◌≡◌, ◌≢◌, []}
 use Rattle.bm_host.specs.declared.Role.{Role}
 use Rattle.bm_host.specs.declared.Role.TheVariants.{Image, Disk, Schedule, Report, Out, Console}
-use Rattle.bm_host.specs.Outside.{Outside}
+use Rattle.bm_host.specs.Outside.{Outside, IfTold}
 use Rattle.bmcast.specs.declared.Status.{Status}
 use Rattle.bmcast.specs.declared.Status.TheVariants as status
 
@@ -35,6 +35,16 @@ LeavesFiles status old new = (role : Role) → IsLeft status role → new.told r
 pub record IsUnopened (old new : Outside) : Type 0 where
   pub report : new.told Report ≡ old.told Report
   pub out : new.told Out ≡ old.told Out
+
+-- no event is read yet: nothing of the schedule is taken, and report and out are empty
+pub record IsOpened (o : Outside) : Type 0 where
+  pub given : o.given Schedule ≡ 0
+  pub report : IfTold (o.told Report) (λ bytes. bytes ≡ [])
+  pub out : IfTold (o.told Out) (λ bytes. bytes ≡ [])
+
+-- no byte of Image was looked at
+abbrev pub KeepsLooked : Outside → Outside → Type 0
+KeepsLooked old new = new.looked ≡ old.looked
 
 -- Console holds what it held
 abbrev pub SameConsole : Outside → Outside → Type 0

@@ -1,6 +1,5 @@
 -- What image and disk must be like, and why they are refused.
 use Rattle.std.specs.Prelude.{ℕ, ◌≡◌, ◌<◌, Some, None, length}
-use Rattle.std.specs.Option.{option_map}
 use Rattle.bm_host.specs.declared.Role.{Role}
 use Rattle.bm_host.specs.declared.Role.TheVariants.{Image, Disk}
 use Rattle.bm_host.specs.Outside.{Outside, IfTold}
@@ -9,8 +8,6 @@ use Rattle.fill_bitmap.specs.declared.lengths.Unsuitable.{Unsuitable}
 use Rattle.fill_bitmap.specs.declared.lengths.Unsuitable.TheVariants as unsuitable
 use Rattle.bmcast.specs.declared.Why.{Why}
 use Rattle.bmcast.specs.declared.Why.TheVariants as why
-use Rattle.bmcast.specs.declared.stop.Stop.{Stop}
-use Rattle.bmcast.specs.declared.stop.Stop.TheVariants as stop
 
 -- a reason as a status tells it
 abbrev pub why_of : Unsuitable → Why
@@ -23,10 +20,14 @@ why_of unsuitable.TooLarge = why.TooLarge
 abbrev pub HasLength : Role → Outside → ℕ → Type 0
 HasLength role o n = IfTold (o.told role) (λ bytes. length bytes ≡ n)
 
--- the lengths of image and disk, where both are told
-abbrev pub IfLengths : Outside → (ℕ → ℕ → Type 0) → Type 0
-IfLengths o P =
-    IfTold (o.told Image) (λ image. IfTold (o.told Disk) (λ disk. P (length image) (length disk)))
+-- image and disk have lengths of which this holds: of each of the two the one that is told, where it
+-- is told
+pub record Measured (o : Outside) (P : ℕ → ℕ → Type 0) : Type 0 where
+  pub image : ℕ
+  pub disk : ℕ
+  pub image_told : HasLength Image o image
+  pub disk_told : HasLength Disk o disk
+  pub holds : P image disk
 
 -- lengths that a run can stand on: suitable ones, with an image that is empty, since no other is built yet
 pub record CanRun (block image disk : ℕ) : Type 0 where
@@ -38,16 +39,13 @@ pub record IsNotYet (block image disk : ℕ) : Type 0 where
   pub suitable : refusal_of image disk block ≡ None
   pub filled : 0 < image
 
--- lengths that aren't suitable, for this reason
+-- lengths that aren't suitable, for this reason; the reasons of a header never come, since no image runs yet
 abbrev pub IsUnsuitable : Why → ℕ → ℕ → ℕ → Type 0
-IsUnsuitable reason block image disk = option_map why_of (refusal_of image disk block) ≡ Some reason
-
--- why the lengths stop a run; no stop but these and a fault comes of them
-abbrev pub StopsFor : Stop → ℕ → ℕ → ℕ → Type 0
-StopsFor (stop.Unsuitable reason) block image disk = IsUnsuitable reason block image disk
-StopsFor stop.NotYet block image disk = IsNotYet block image disk
-StopsFor (stop.ReadFault role) block image disk = Unit {0}
-StopsFor stop.Usage block image disk = ⊥
-StopsFor (stop.BadLine number fault) block image disk = ⊥
-StopsFor (stop.WriteFault role) block image disk = ⊥
-StopsFor stop.NoMemory block image disk = ⊥
+IsUnsuitable why.ImageLength block image disk =
+    refusal_of image disk block ≡ Some unsuitable.ImageLength
+IsUnsuitable why.DiskLength block image disk =
+    refusal_of image disk block ≡ Some unsuitable.DiskLength
+IsUnsuitable why.TooSmall block image disk = refusal_of image disk block ≡ Some unsuitable.TooSmall
+IsUnsuitable why.TooLarge block image disk = refusal_of image disk block ≡ Some unsuitable.TooLarge
+IsUnsuitable why.AlreadyBegun block image disk = ⊥
+IsUnsuitable why.NotBegun block image disk = ⊥

@@ -1,6 +1,7 @@
 pub mod Machine
 pub mod Chosen
 pub mod Stop
+pub mod Stages
 pub mod Waiting
 pub mod Streams
 pub mod Played

@@ -1,5 +1,5 @@
 -- The answer that words, lengths and schedule owe, where the host tells them and nothing fails.
-use Rattle.std.specs.Prelude.{ℕ, ◌≡◌, ◌⊎◌, List, length}
+use Rattle.std.specs.Prelude.{ℕ, ◌≡◌, ◌⊎◌, List, IsSome}
 use Rattle.std.specs.Option.{IsSomeAnd}
 use Rattle.bm_host.specs.declared.Role.TheVariants.{Image, Disk, Schedule}
 use Rattle.bm_host.specs.Outside.{Outside, NoCountRose}
@@ -7,15 +7,16 @@ use Rattle.run_words.specs.Options.{Choice, Says}
 use Rattle.schedule_text.specs.declared.Event.{Event}
 use Rattle.schedule_text.specs.Schedule.{IsSchedule}
 use Rattle.schedule_text.specs.BadLine.{FailsAt}
-use Rattle.bmcast.specs.Chosen.{Chosen}
+use Rattle.bmcast.specs.Chosen.{Chooses}
 use Rattle.bmcast.specs.Lengths.{CanRun, IsNotYet, IsUnsuitable}
 use Rattle.bmcast.specs.declared.Status.{Status}
 use Rattle.bmcast.specs.declared.Status.TheVariants as status
 
--- the words choose a run, image and disk are told, and the block with their lengths is so
-abbrev pub Offers : List (List ℕ) → Outside → (ℕ → ℕ → ℕ → Type 0) → Type 0
-Offers words o P = Chosen words (λ choice. IsSomeAnd (o.told Image)
-    (λ image. IsSomeAnd (o.told Disk) (λ disk. P choice.sizes.block (length image) (length disk))))
+-- image and disk are told, and the words choose a run whose block with their lengths is so
+pub record Offers (words : List (List ℕ)) (o : Outside) (P : ℕ → ℕ → ℕ → Type 0) : Type 0 where
+  pub image : IsSome (o.told Image)
+  pub disk : IsSome (o.told Disk)
+  pub chooses : Chooses words o P
 
 -- the answer that is owed: the first refusal of words, lengths and schedule, or else Done; a fault and want of
 -- memory never are (own)

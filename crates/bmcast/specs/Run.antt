@@ -13,12 +13,6 @@ use Rattle.plain_run.specs.Run.{Drives, IsDriveRun, IsDirectRun, drives}
 use Rattle.plain_run.specs.Written.{is_named}
 use Rattle.bmcast.specs.Chosen.{Chosen}
 
--- no event is read yet: nothing of the schedule is taken, and report and out are empty
-pub record IsOpened (o : Outside) : Type 0 where
-  pub given : o.given Schedule ≡ 0
-  pub report : IfTold (o.told Report) (λ bytes. bytes ≡ [])
-  pub out : IfTold (o.told Out) (λ bytes. bytes ≡ [])
-
 -- the schedule was played to its end, from one state of the drive to another, and the report is its text
 pub record IsReported (old new : Outside) (start now : Physical) : Type 0 where
   pub entries : List Entry

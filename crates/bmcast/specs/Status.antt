@@ -2,10 +2,11 @@
 use Rattle.std.specs.Prelude.{ℕ, ◌≡◌, ◌≢◌, ◌≤◌, ◌++◌, ◌⊎◌, List, Result, Ok, Err}
 use Rattle.run_words.specs.Options.{Choice, Says}
 use Rattle.schedule_text.specs.declared.LineFault.{LineFault}
-use Rattle.bmcast.specs.Chosen.{Chosen}
-use Rattle.bmcast.specs.Lengths.{IfLengths, CanRun, IsNotYet, IsUnsuitable}
+use Rattle.bmcast.specs.Chosen.{ChooseARun, Chooses}
+use Rattle.bmcast.specs.Kept.{IsOpened, IsUnopened}
+use Rattle.bmcast.specs.Lengths.{CanRun, IsNotYet, IsUnsuitable}
 use Rattle.bm_host.specs.declared.Role.{Role}
-use Rattle.bm_host.specs.declared.Role.TheVariants.{Console}
+use Rattle.bm_host.specs.declared.Role.TheVariants.{Image, Disk, Schedule, Report, Out, Console}
 use Rattle.bm_host.specs.Outside.{Outside, Rose, SameCounts, Becomes, AppendsPrefix}
 use Rattle.bmcast.specs.declared.Status.{Status}
 use Rattle.bmcast.specs.declared.Status.TheVariants as status
@@ -25,18 +26,22 @@ ConsoleSays text old new =
     ⊎ (Rose (old.write_faults Console) (new.write_faults Console)
     × Becomes (AppendsPrefix text) (old.told Console) (new.told Console))
 
--- a read of this role failed: its count rose, and no other changed but that of Console's writes
+-- a read of this role failed: its count rose, and no other changed but that of Console's writes, which didn't
+-- fall
 pub record ReadFailed (failed : Role) (old new : Outside) : Type 0 where
   pub rose : Rose (old.read_faults failed) (new.read_faults failed)
   pub reads : (role : Role) → role ≢ failed → new.read_faults role ≡ old.read_faults role
   pub writes : (role : Role) → role ≢ Console → new.write_faults role ≡ old.write_faults role
+  pub console : old.write_faults Console ≤ new.write_faults Console
 
--- a write of this role failed: its count rose, and no other changed but that of Console's writes
+-- a write of this role failed: its count rose, and no other changed but that of Console's writes, which didn't
+-- fall
 pub record WriteFailed (failed : Role) (old new : Outside) : Type 0 where
   pub rose : Rose (old.write_faults failed) (new.write_faults failed)
   pub reads : (role : Role) → new.read_faults role ≡ old.read_faults role
   pub writes : (role : Role) → role ≢ failed → role ≢ Console
       → new.write_faults role ≡ old.write_faults role
+  pub console : old.write_faults Console ≤ new.write_faults Console
 
 -- what a status says of the counts of faults
 abbrev pub HasItsCause : Status → Outside → Outside → Type 0
@@ -50,10 +55,11 @@ abbrev pub OnDone : Status → Type 0 → Type 0
 OnDone status.Done P = P
 OnDone other P = Unit {0}
 
--- a fact for want of memory
-abbrev pub OnNoMemory : Status → Type 0 → Type 0
-OnNoMemory status.NoMemory P = P
-OnNoMemory other P = Unit {0}
+-- a fact for what stops a run while the disk is read
+abbrev pub OnLoading : Status → Type 0 → Type 0
+OnLoading (status.ReadFault Disk) P = P
+OnLoading status.NoMemory P = P
+OnLoading other P = Unit {0}
 
 -- the status of a run that stopped
 abbrev pub status_of : Stop → Status
@@ -81,20 +87,39 @@ abbrev pub status_after : {T : Type 0} → Result T Stop → Status
 status_after (Ok x) = status.Done
 status_after (Err why) = status_of why
 
--- the words choose a run, and its block with the lengths of image and disk are so
-abbrev pub Chooses : List (List ℕ) → Outside → (ℕ → ℕ → ℕ → Type 0) → Type 0
-Chooses words o P = Chosen words (λ choice. IfLengths o (P choice.sizes.block))
-
--- why a status comes, of the words and of the lengths, in the order in which these are looked at
+-- why a status comes, of the words and of the lengths, in the order in which these are looked at; no
+-- other role than these has a fault that ends a run
 abbrev pub HasItsReason : Status → List (List ℕ) → Outside → Type 0
 HasItsReason status.Usage words o = (choice : Choice) → ¬ Says words choice
 HasItsReason (status.Unsuitable reason) words o = Chooses words o (IsUnsuitable reason)
 HasItsReason status.NotYet words o = Chooses words o IsNotYet
-HasItsReason status.Done words o = Chooses words o CanRun
-HasItsReason (status.BadLine number fault) words o = Chooses words o CanRun
-HasItsReason (status.WriteFault role) words o = Chooses words o CanRun
+HasItsReason (status.ReadFault Image) words o = ChooseARun words
+HasItsReason (status.ReadFault Disk) words o = ChooseARun words
+HasItsReason (status.ReadFault Schedule) words o = Chooses words o CanRun
+HasItsReason (status.ReadFault Report) words o = ⊥
+HasItsReason (status.ReadFault Out) words o = ⊥
+HasItsReason (status.ReadFault Console) words o = ⊥
+HasItsReason (status.WriteFault Image) words o = ⊥
+HasItsReason (status.WriteFault Disk) words o = ⊥
+HasItsReason (status.WriteFault Schedule) words o = ⊥
+HasItsReason (status.WriteFault Report) words o = Chooses words o CanRun
+HasItsReason (status.WriteFault Out) words o = Chooses words o CanRun
+HasItsReason (status.WriteFault Console) words o = ⊥
 HasItsReason status.NoMemory words o = Chooses words o CanRun
-HasItsReason (status.ReadFault role) words o = Chooses words o (λ block image disk. Unit {0})
+HasItsReason (status.BadLine number fault) words o = Chooses words o CanRun
+HasItsReason status.Done words o = Chooses words o CanRun
+
+-- how far a run has come that ends so: the lengths stop it before Report and Out are opened, a fault
+-- of Disk then too, or behind good lengths when these are open; want of memory comes then alone
+abbrev pub HasCome : Status → List (List ℕ) → Outside → Outside → Type 0
+HasCome status.Usage words old new = IsUnopened old new
+HasCome (status.Unsuitable reason) words old new = IsUnopened old new
+HasCome status.NotYet words old new = IsUnopened old new
+HasCome (status.ReadFault Image) words old new = IsUnopened old new
+HasCome (status.ReadFault Disk) words old new =
+    IsUnopened old new ⊎ (IsOpened new × Chooses words old CanRun)
+HasCome status.NoMemory words old new = IsOpened new
+HasCome later words old new = Unit {0}
 
 -- a fact for every status but Done
 abbrev pub UnlessDone : Status → Type 0 → Type 0

@@ -26,32 +26,3 @@ abbrev pub UnlessFault : {T : Type 0} → Result T Stop → Type 0 → Type 0
 UnlessFault (Ok x) P = P
 UnlessFault (Err (stop.BadLine number fault)) P = P
 UnlessFault other P = Unit {0}
-
--- a stop while files are read and written: a fault and nothing else
-abbrev pub IsFault : Stop → Type 0
-IsFault (stop.ReadFault role) = Unit {0}
-IsFault (stop.WriteFault role) = Unit {0}
-IsFault other = ⊥
-
--- a stop while events are done: a fault or a bad line
-abbrev pub IsPlayStop : Stop → Type 0
-IsPlayStop (stop.BadLine number fault) = Unit {0}
-IsPlayStop other = IsFault other
-
--- a stop while the disk is read: a fault, or want of memory
-abbrev pub IsLateFault : Stop → Type 0
-IsLateFault stop.NoMemory = Unit {0}
-IsLateFault other = IsFault other
-
--- a stop once words and lengths are good: a fault, a bad line or want of memory
-abbrev pub IsLate : Stop → Type 0
-IsLate stop.NoMemory = Unit {0}
-IsLate other = IsPlayStop other
-
--- a stop while image and disk are measured: unsuitable lengths, an image that isn't empty, or a file
--- that can't be read
-abbrev pub IsEarly : Stop → Type 0
-IsEarly (stop.Unsuitable why) = Unit {0}
-IsEarly stop.NotYet = Unit {0}
-IsEarly (stop.ReadFault role) = Unit {0}
-IsEarly other = ⊥

@@ -4,6 +4,7 @@ ghost use Rattle.std.specs.Prelude.{◌≡◌, ◌≤◌, ◌+◌, ◌++◌, [],
 ghost use Rattle.bm_host.specs.declared.Role.TheVariants.{Console};
 ghost use Rattle.bmcast.specs.Status.{ConsoleSays, OnlyConsole};
 ghost use Rattle.bm_host.specs.Outside.{SameElsewhere};
+ghost use Rattle.bmcast.specs.Kept.{KeepsLooked};
 ghost use Rattle.bmcast.specs.StatusLine.{fault_name, role_name, status_line, status_text, why_name};
 
 use crate::{Status, Why};
@@ -21,6 +22,7 @@ pub(crate) fn tell<H: Host>(host: &mut H, status: Status)
     ensures console { OnlyConsole (H.outside host.old) (H.outside host.new) }
     ensures told { ConsoleSays (status_line status) (H.outside host.old) (H.outside host.new) }
     ensures elsewhere { SameElsewhere Console (H.outside host.old) (H.outside host.new) }
+    ensures looked { KeepsLooked (H.outside host.old) (H.outside host.new) }
 {
     let mut line = ArrayVec::new();
     push_line(&mut line, status);

@@ -8,8 +8,9 @@ ghost use Rattle.plain_drive.specs.Plain.{sectors_in};
 ghost use Rattle.bmcast.specs.Lengths.{HasLength};
 ghost use Rattle.bmcast.specs.Machine.{list_of, physical};
 ghost use Rattle.bmcast.specs.Run.{drive_over, sectors_of_disk};
-ghost use Rattle.bmcast.specs.Stop.{IsCounted, IsFault, IsLateFault};
-ghost use Rattle.bmcast.specs.Kept.{KeepsFilesBut};
+ghost use Rattle.bmcast.specs.Stop.{IsCounted};
+ghost use Rattle.bmcast.specs.Stages.{StopsAt, loading, writing_out};
+ghost use Rattle.bmcast.specs.Kept.{KeepsFilesBut, KeepsLooked};
 ghost use Rattle.bmcast.specs.Waiting.{Waits};
 
 use crate::machine::Machine;
@@ -35,7 +36,8 @@ pub(crate) fn load<H: Host>(
     requires whole { size % 512 ≡ 0 }
     requires memory { memory ≤ MOST_BYTES }
     requires told { HasLength Disk (H.outside host.old) size }
-    ensures late { IfErr result IsLateFault }
+    ensures stops { IfErr result (StopsAt loading) }
+    ensures looked { KeepsLooked (H.outside host.old) (H.outside host.new) }
     ensures counts { IsCounted result (H.outside host.old) (H.outside host.new) }
     ensures bytes { SameBytes (H.outside host.old) (H.outside host.new) }
     ensures began { IfOk result (λ machine.
@@ -63,7 +65,8 @@ pub(crate) fn load<H: Host>(
 fn read_disk<H: Host>(host: &mut H, store: &mut MemoryStore) -> Result<(), Stop>
     requires few { 512 * length (list_of store.old) < 2 ^ 64 }
     requires told { HasLength Disk (H.outside host.old) (512 * length (list_of store.old)) }
-    ensures fault { IfErr result IsFault }
+    ensures stops { IfErr result (StopsAt loading) }
+    ensures looked { KeepsLooked (H.outside host.old) (H.outside host.new) }
     ensures counts { IsCounted result (H.outside host.old) (H.outside host.new) }
     ensures bytes { SameBytes (H.outside host.old) (H.outside host.new) }
     ensures count { length (list_of store.new) ≡ length (list_of store.old) }
@@ -81,7 +84,8 @@ fn read_sector<H: Host>(host: &mut H, store: &mut MemoryStore, sector: u64) -> R
     requires within { sector < length (list_of store.old) }
     requires few { 512 * length (list_of store.old) < 2 ^ 64 }
     requires told { HasLength Disk (H.outside host.old) (512 * length (list_of store.old)) }
-    ensures fault { IfErr result IsFault }
+    ensures stops { IfErr result (StopsAt loading) }
+    ensures looked { KeepsLooked (H.outside host.old) (H.outside host.new) }
     ensures counts { IsCounted result (H.outside host.old) (H.outside host.new) }
     ensures bytes { SameBytes (H.outside host.old) (H.outside host.new) }
     ensures count { length (list_of store.new) ≡ length (list_of store.old) }
@@ -110,7 +114,8 @@ pub(crate) fn write_out<H: Host>(
     requires empty { IfTold ((H.outside host.old).told Out) (λ bytes. bytes ≡ []) }
     requires count { length (physical machine.old).kept.durable ≡ sectors }
     ensures counts { IsCounted result (H.outside host.old) (H.outside host.new) }
-    ensures fault { IfErr result IsFault }
+    ensures stops { IfErr result (StopsAt writing_out) }
+    ensures looked { KeepsLooked (H.outside host.old) (H.outside host.new) }
     ensures files { KeepsFilesBut Out (H.outside host.old) (H.outside host.new) }
     ensures machine { physical machine.new ≡ physical machine.old }
     ensures out { OnOk result (IfTold ((H.outside host.new).told Out)
@@ -132,7 +137,8 @@ fn write_sector<H: Host>(
     piece: &mut Piece,
 ) -> Result<(), Stop>
     requires { sector < length (physical machine.old).kept.durable }
-    ensures fault { IfErr result IsFault }
+    ensures stops { IfErr result (StopsAt writing_out) }
+    ensures looked { KeepsLooked (H.outside host.old) (H.outside host.new) }
     ensures counts { IsCounted result (H.outside host.old) (H.outside host.new) }
     ensures files { KeepsFilesBut Out (H.outside host.old) (H.outside host.new) }
     ensures machine { physical machine.new ≡ physical machine.old }

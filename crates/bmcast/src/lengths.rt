@@ -4,10 +4,11 @@ ghost use Rattle.std.specs.Prelude.{◌≡◌, ◌%◌, ◌/◌, ◌<◌, ℕ, L
 ghost use Rattle.bm_host.specs.Outside.{Outside, Counted, Reads, begin_side, begun};
 ghost use Rattle.fill_bitmap.specs.Area.{IsBlock};
 ghost use Rattle.bm_host.specs.declared.Role.TheVariants.{Image, Disk};
-ghost use Rattle.bmcast.specs.Lengths.{CanRun, HasLength, IfLengths, StopsFor, why_of};
-ghost use Rattle.bmcast.specs.Kept.{IsUnopened, KeepsAllFiles, KeepsFilesBut, LeavesFiles, SameConsole};
+ghost use Rattle.bmcast.specs.Lengths.{CanRun, HasLength, Measured, why_of};
+ghost use Rattle.bmcast.specs.Kept.{IsUnopened, KeepsAllFiles, KeepsFilesBut, KeepsLooked, LeavesFiles, SameConsole};
 ghost use Rattle.bmcast.specs.Status.{status_after};
-ghost use Rattle.bmcast.specs.Stop.{IsCounted, IsEarly};
+ghost use Rattle.bmcast.specs.Stop.{IsCounted};
+ghost use Rattle.bmcast.specs.Stages.{StopsAt, measuring};
 
 use crate::Why;
 use crate::stop::Stop;
@@ -25,10 +26,9 @@ pub(crate) fn measure<H: Host>(host: &mut H, options: &Options<'_>) -> Result<u6
     ensures console { SameConsole (H.outside host.old) (H.outside host.new) }
     ensures disk { IfOk result (HasLength Disk (H.outside host.old)) }
     ensures whole { IfOk result (λ n. n % 512 ≡ 0) }
-    ensures early { IfErr result IsEarly }
-    ensures suitable { OnOk result (IfLengths (H.outside host.old) (CanRun options.now.block)) }
-    ensures refused { IfErr result (λ stop.
-        IfLengths (H.outside host.old) (StopsFor stop options.now.block)) }
+    ensures looked { KeepsLooked (H.outside host.old) (H.outside host.new) }
+    ensures suitable { OnOk result (Measured (H.outside host.old) (CanRun options.now.block)) }
+    ensures stops { IfErr result (StopsAt (measuring options.now.block (H.outside host.old))) }
 {
     let Ok(image) = length_of(host, Role::Image, options.image) else {
         return Err(Stop::ReadFault(Role::Image));
@@ -45,9 +45,9 @@ pub(crate) fn measure<H: Host>(host: &mut H, options: &Options<'_>) -> Result<u6
 // An image and a disk of so many bytes are suitable, and the image is empty.
 fn check(image: u64, disk: u64, block: u64) -> Result<(), Stop>
     requires { IsBlock block }
-    ensures early { IfErr result IsEarly }
     ensures suitable { OnOk result (CanRun block image disk) }
-    ensures refused { IfErr result (λ stop. StopsFor stop block image disk) }
+    ensures stops { (o : Outside) → HasLength Image o image → HasLength Disk o disk
+        → IfErr result (StopsAt (measuring block o)) }
     ensures counts { (o : Outside) → IsCounted result o o }
     ensures whole { OnOk result (disk % 512 ≡ 0) }
 {
@@ -78,6 +78,7 @@ fn length_of<H: Host>(host: &mut H, role: Role, name: &str) -> Result<u64, Faile
     ensures counts { Counted Reads role (H.outside host.old) (H.outside host.new) result }
     ensures files { OnOk result (KeepsAllFiles (H.outside host.old) (H.outside host.new)) }
     ensures others { KeepsFilesBut role (H.outside host.old) (H.outside host.new) }
+    ensures looked { KeepsLooked (H.outside host.old) (H.outside host.new) }
     ensures length { IfOk result (HasLength role (H.outside host.old)) }
 {
     host.begin(role, name)?;

@@ -18,13 +18,12 @@ mod stop;
 mod streams;
 mod waiting;
 
-ghost use Rattle.bmcast.specs.Run.{IsOpened, RunIsBad, RunIsDone};
-ghost use Rattle.bmcast.specs.Kept.{IsUnopened, LeavesFiles};
-ghost use Rattle.bmcast.specs.Lengths.{CanRun};
+ghost use Rattle.bmcast.specs.Run.{RunIsBad, RunIsDone};
+ghost use Rattle.bmcast.specs.Kept.{KeepsLooked, LeavesFiles};
 ghost use Rattle.bmcast.specs.Owed.{AnswersWhatIsOwed};
-ghost use Rattle.std.specs.Prelude.{◌≡◌, ◌⊎◌};
+ghost use Rattle.std.specs.Prelude.{◌≡◌};
 ghost use Rattle.run_words.specs.Pairs.{texts};
-ghost use Rattle.bmcast.specs.Status.{Chooses, HasItsReason, OnBadLineStatus, OnNoMemory, UnlessDone};
+ghost use Rattle.bmcast.specs.Status.{HasCome, HasItsReason, OnBadLineStatus, UnlessDone};
 ghost use Rattle.bmcast.specs.Status.{HasItsCause, OnDone, OnlyConsole, ConsoleSays, exit_code, status_of};
 ghost use Rattle.bm_host.specs.declared.Role.TheVariants.{Console};
 ghost use Rattle.bmcast.specs.StatusLine.{status_line};
@@ -96,11 +95,11 @@ pub fn bmcast<H: Host>(alloc: Global, words: &[String], host: &mut H) -> Status
     ensures owed { AnswersWhatIsOwed result (texts words.now)
         (H.outside host.old) (H.outside host.new) }
 
-    // Report and Out are opened only behind words and lengths that are good.
-    ensures opened { IsUnopened (H.outside host.old) (H.outside host.new)
-        ⊎ Chooses (texts words.now) (H.outside host.old) CanRun }
+    // Report and Out are opened only behind words and lengths that are good, and the disk is read and memory taken
+    // before the first event.
+    ensures came { HasCome result (texts words.now) (H.outside host.old) (H.outside host.new) }
     ensures files { LeavesFiles result (H.outside host.old) (H.outside host.new) }
-    ensures memory { OnNoMemory result (IsOpened (H.outside host.new)) }
+    ensures looked { KeepsLooked (H.outside host.old) (H.outside host.new) }
 
     ensures told { UnlessDone result
         (ConsoleSays (status_line result) (H.outside host.old) (H.outside host.new)) }
@@ -118,6 +117,7 @@ fn report_stop<H: Host>(host: &mut H, stop: Stop) -> Status
     ensures counts { OnlyConsole (H.outside host.old) (H.outside host.new) }
     ensures told { ConsoleSays (status_line result) (H.outside host.old) (H.outside host.new) }
     ensures elsewhere { SameElsewhere Console (H.outside host.old) (H.outside host.new) }
+    ensures looked { KeepsLooked (H.outside host.old) (H.outside host.new) }
 {
     let status = stop.status();
     tell(host, status);

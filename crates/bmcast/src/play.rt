@@ -9,8 +9,9 @@ ghost use Rattle.schedule_text.specs.Line.{Says, IsInRange};
 ghost use Rattle.schedule_text.specs.BadLine.{LineFails};
 ghost use Rattle.plain_run.specs.Entry.{entry_of, items_text};
 ghost use Rattle.plain_run.specs.Run.{DriveEvent};
-ghost use Rattle.bmcast.specs.Stop.{IsCounted, IsFault, IsPlayStop, OnBadLine, UnlessFault};
-ghost use Rattle.bmcast.specs.Kept.{KeepsFiles};
+ghost use Rattle.bmcast.specs.Stop.{IsCounted, OnBadLine, UnlessFault};
+ghost use Rattle.bmcast.specs.Stages.{StopsAt, moving_lines, playing};
+ghost use Rattle.bmcast.specs.Kept.{KeepsFiles, KeepsLooked};
 ghost use Rattle.bmcast.specs.Streams.{unread, KeepsSaid, Reports};
 ghost use Rattle.bmcast.specs.Played.{HasPlayed, HasTaken, HasDone, HasEnded, Leads, Progresses, HasFailed};
 
@@ -35,7 +36,8 @@ pub(crate) fn play<H: Host>(
     streams: &mut Streams,
     machine: &mut Machine,
 ) -> Result<u32, Stop>
-    ensures play { IfErr result IsPlayStop }
+    ensures stops { IfErr result (StopsAt playing) }
+    ensures looked { KeepsLooked (H.outside host.old) (H.outside host.new) }
     ensures counts { IsCounted result (H.outside host.old) (H.outside host.new) }
     ensures files { KeepsFiles (H.outside host.old) (H.outside host.new) }
     ensures ended { IfOk result (λ number. (start : Physical)
@@ -68,7 +70,8 @@ fn play_line<H: Host>(
     number: u32,
 ) -> Result<Progress, Stop>
     requires number { number ≤ LAST_LINE }
-    ensures play { IfErr result IsPlayStop }
+    ensures stops { IfErr result (StopsAt playing) }
+    ensures looked { KeepsLooked (H.outside host.old) (H.outside host.new) }
     ensures counts { IsCounted result (H.outside host.old) (H.outside host.new) }
     ensures files { KeepsFiles (H.outside host.old) (H.outside host.new) }
     ensures progress { IfOk result (λ progress. (start : Physical)
@@ -102,7 +105,8 @@ fn take_line<H: Host>(
     number: u32,
 ) -> Result<(), Stop>
     requires number { number ≤ LAST_LINE }
-    ensures play { IfErr result IsPlayStop }
+    ensures stops { IfErr result (StopsAt playing) }
+    ensures looked { KeepsLooked (H.outside host.old) (H.outside host.new) }
     ensures counts { IsCounted result (H.outside host.old) (H.outside host.new) }
     ensures files { KeepsFiles (H.outside host.old) (H.outside host.new) }
     ensures taken { OnOk result ((start now : Physical)
@@ -132,7 +136,8 @@ fn do_line<H: Host>(
     number: u32,
 ) -> Result<Progress, Stop>
     requires number { number ≤ LAST_LINE }
-    ensures play { IfErr result IsPlayStop }
+    ensures stops { IfErr result (StopsAt playing) }
+    ensures looked { KeepsLooked (H.outside host.old) (H.outside host.new) }
     ensures counts { IsCounted result (H.outside host.old) (H.outside host.new) }
     ensures files { KeepsFiles (H.outside host.old) (H.outside host.new) }
     ensures done { IfOk result (λ progress. (start : Physical)
@@ -160,7 +165,7 @@ fn do_line<H: Host>(
 
 // Whether a schedule goes on behind this event. The last line that can have a number must be the schedule's end.
 fn progress_after(event: &Event, number: u32) -> Result<Progress, Stop>
-    ensures play { IfErr result IsPlayStop }
+    ensures stops { IfErr result (StopsAt playing) }
     ensures counts { (o : Outside) → IsCounted result o o }
     ensures leads { IfOk result (λ progress. Leads progress event.now number) }
     ensures bad { (line : List ℕ) → Says line event.now
@@ -184,7 +189,8 @@ fn do_event<H: Host>(
 ) -> Result<(), Stop>
     requires in_range { IsInRange event.now }
     ensures counts { IsCounted result (H.outside host.old) (H.outside host.new) }
-    ensures fault { IfErr result IsFault }
+    ensures stops { IfErr result (StopsAt moving_lines) }
+    ensures looked { KeepsLooked (H.outside host.old) (H.outside host.new) }
     ensures files { KeepsFiles (H.outside host.old) (H.outside host.new) }
     ensures event { DriveEvent (physical machine.old)
         (entry_of event.now out.new.items.items out.new.bytes.items) (physical machine.new) }
@@ -200,7 +206,8 @@ fn do_event<H: Host>(
 // Nothing follows the line `end`, which has this number.
 fn expect_end<H: Host>(host: &mut H, streams: &mut Streams, number: u32) -> Result<(), Stop>
     requires { number ≤ LAST_LINE }
-    ensures play { IfErr result IsPlayStop }
+    ensures stops { IfErr result (StopsAt playing) }
+    ensures looked { KeepsLooked (H.outside host.old) (H.outside host.new) }
     ensures counts { IsCounted result (H.outside host.old) (H.outside host.new) }
     ensures files { KeepsFiles (H.outside host.old) (H.outside host.new) }
     ensures said { UnlessFault result

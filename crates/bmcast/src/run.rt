@@ -5,12 +5,13 @@ ghost use Rattle.bm_host.specs.declared.Role.TheVariants.{Disk, Out};
 ghost use Rattle.plain_drive.specs.Physical.{Physical};
 ghost use Rattle.bmcast.specs.Machine.{physical};
 ghost use Rattle.run_words.specs.Pairs.{texts};
-ghost use Rattle.bmcast.specs.Kept.{IsUnopened, KeepsFiles, LeavesFiles, SameConsole};
-ghost use Rattle.bmcast.specs.Lengths.{CanRun, HasLength};
-ghost use Rattle.bmcast.specs.Stop.{IsCounted, IsFault, IsLate, IsPlayStop, OnBadLine};
-ghost use Rattle.bmcast.specs.Status.{Chooses, HasItsReason, OnNoMemory, status_after};
+ghost use Rattle.bmcast.specs.Kept.{IsOpened, KeepsFiles, KeepsLooked, LeavesFiles, SameConsole};
+ghost use Rattle.bmcast.specs.Lengths.{HasLength};
+ghost use Rattle.bmcast.specs.Stop.{IsCounted, OnBadLine};
+ghost use Rattle.bmcast.specs.Stages.{IsLate, StopsAt, beginning, playing};
+ghost use Rattle.bmcast.specs.Status.{HasCome, HasItsReason, OnLoading, status_after};
 ghost use Rattle.bmcast.specs.Played.{HasPlayed, HasEnded, HasFailed};
-ghost use Rattle.bmcast.specs.Run.{IsOpened, IsReported, IsStopped, DoneRun, BadLineRun, RunIsBad, RunIsDone};
+ghost use Rattle.bmcast.specs.Run.{IsReported, IsStopped, DoneRun, BadLineRun, RunIsBad, RunIsDone};
 
 use crate::disk::{load, write_out};
 use crate::lengths::measure;
@@ -34,9 +35,9 @@ pub(crate) fn run<H: Host>(alloc: Global, words: &[String], host: &mut H) -> Res
         (RunIsBad (texts words.now) (H.outside host.old) (H.outside host.new)) }
     ensures reason { HasItsReason (status_after result) (texts words.now) (H.outside host.old) }
     ensures files { LeavesFiles (status_after result) (H.outside host.old) (H.outside host.new) }
-    ensures opened { IsUnopened (H.outside host.old) (H.outside host.new)
-        ⊎ Chooses (texts words.now) (H.outside host.old) CanRun }
-    ensures memory { OnNoMemory (status_after result) (IsOpened (H.outside host.new)) }
+    ensures came { HasCome (status_after result) (texts words.now)
+        (H.outside host.old) (H.outside host.new) }
+    ensures looked { KeepsLooked (H.outside host.old) (H.outside host.new) }
     ensures console { SameConsole (H.outside host.old) (H.outside host.new) }
 {
     let Some(options) = read_options(words) else {
@@ -61,28 +62,37 @@ fn run_events<H: Host>(
     requires disk { HasLength Disk (H.outside host.old) size }
     ensures counts { IsCounted result (H.outside host.old) (H.outside host.new) }
     ensures late { IfErr result IsLate }
+    ensures looked { KeepsLooked (H.outside host.old) (H.outside host.new) }
     ensures done { OnOk result
         (DoneRun options.now.memory (H.outside host.old) (H.outside host.new)) }
     ensures bad { OnBadLine result
         (BadLineRun options.now.memory (H.outside host.old) (H.outside host.new)) }
     ensures files { LeavesFiles (status_after result) (H.outside host.old) (H.outside host.new) }
-    ensures memory { OnNoMemory (status_after result) (IsOpened (H.outside host.new)) }
+    ensures opened { OnLoading (status_after result) (IsOpened (H.outside host.new)) }
     ensures console { SameConsole (H.outside host.old) (H.outside host.new) }
 {
-    begin_files(host, options)?;
+    // A `?` would tell of its answer only that it is an error, and not which stop.
+    match begin_files(host, options) {
+        Ok(()) => {}
+        Err(stop) => return Err(stop),
+    }
     let mut machine = load(alloc, host, size, options.memory as u32)?;
     match report_run(host, &mut machine) {
         Ok(()) => {}
         Err(stop) => return Err(stop),
     }
-    write_out(host, &mut machine, size / 512)?;
+    match write_out(host, &mut machine, size / 512) {
+        Ok(()) => {}
+        Err(stop) => return Err(stop),
+    }
     Ok(())
 }
 
 // Begins the files of the run but image and disk; report and out are empty afterwards.
 fn begin_files<H: Host>(host: &mut H, options: &Options<'_>) -> Result<(), Stop>
     ensures counts { IsCounted result (H.outside host.old) (H.outside host.new) }
-    ensures fault { IfErr result IsFault }
+    ensures stops { IfErr result (StopsAt beginning) }
+    ensures looked { KeepsLooked (H.outside host.old) (H.outside host.new) }
     ensures ready { OnOk result (IsOpened (H.outside host.new)) }
     ensures files { LeavesFiles (status_after result) (H.outside host.old) (H.outside host.new) }
     ensures console { SameConsole (H.outside host.old) (H.outside host.new) }
@@ -104,7 +114,8 @@ fn report_run<H: Host>(host: &mut H, machine: &mut Machine) -> Result<(), Stop>
     requires ready { IsOpened (H.outside host.old) }
     ensures counts { IsCounted result (H.outside host.old) (H.outside host.new) }
     ensures files { KeepsFiles (H.outside host.old) (H.outside host.new) }
-    ensures play { IfErr result IsPlayStop }
+    ensures stops { IfErr result (StopsAt playing) }
+    ensures looked { KeepsLooked (H.outside host.old) (H.outside host.new) }
     ensures reported { OnOk result (IsReported (H.outside host.old) (H.outside host.new)
         (physical machine.old) (physical machine.new)) }
     ensures bad { OnBadLine result (IsStopped (H.outside host.old) (H.outside host.new)
@@ -128,7 +139,8 @@ fn play_to_end<H: Host>(
 ) -> Result<u32, Stop>
     ensures counts { IsCounted result (H.outside host.old) (H.outside host.new) }
     ensures files { KeepsFiles (H.outside host.old) (H.outside host.new) }
-    ensures play { IfErr result IsPlayStop }
+    ensures stops { IfErr result (StopsAt playing) }
+    ensures looked { KeepsLooked (H.outside host.old) (H.outside host.new) }
     ensures ended { IfOk result (λ number. (start : Physical)
         → HasPlayed start streams.old (H.outside host.old) (physical machine.old) 1
         → HasEnded start streams.new (H.outside host.new) (physical machine.new) number) }

@@ -43,8 +43,9 @@ impl Streams {
     ghost use Rattle.bm_host.specs.declared.Role.TheVariants.{Report, Schedule};
     ghost use Rattle.schedule_text.specs.Report.{end_text, line_text};
     ghost use Rattle.plain_run.specs.Entry.{items_text};
-    ghost use Rattle.bmcast.specs.Stop.{IsCounted, IsFault};
-    ghost use Rattle.bmcast.specs.Kept.{KeepsFiles};
+    ghost use Rattle.bmcast.specs.Stop.{IsCounted};
+    ghost use Rattle.bmcast.specs.Stages.{StopsAt, moving_lines};
+    ghost use Rattle.bmcast.specs.Kept.{KeepsFiles, KeepsLooked};
     ghost use Rattle.bmcast.specs.Streams.{unread, Takes, TakesBytes, Fetches, KeepsSaid, Reports};
 
     /// Nothing read and nothing to write.
@@ -64,7 +65,8 @@ impl Streams {
     /// Writes the lines that wait.
     pub(crate) fn flush<H: Host>(&mut self, host: &mut H) -> Result<(), Stop>
         ensures counts { IsCounted result (H.outside host.old) (H.outside host.new) }
-        ensures fault { IfErr result IsFault }
+        ensures stops { IfErr result (StopsAt moving_lines) }
+        ensures looked { KeepsLooked (H.outside host.old) (H.outside host.new) }
         ensures files { KeepsFiles (H.outside host.old) (H.outside host.new) }
         ensures block { self.new ≡ record self.old { pending = self.new.pending } }
         ensures said { OnOk result
@@ -84,7 +86,8 @@ impl Streams {
         out: &Emitted,
     ) -> Result<(), Stop>
         ensures counts { IsCounted result (H.outside host.old) (H.outside host.new) }
-        ensures fault { IfErr result IsFault }
+        ensures stops { IfErr result (StopsAt moving_lines) }
+        ensures looked { KeepsLooked (H.outside host.old) (H.outside host.new) }
         ensures files { KeepsFiles (H.outside host.old) (H.outside host.new) }
         ensures reported { OnOk result
             (Reports self.old self.new (H.outside host.old) (H.outside host.new)
@@ -105,7 +108,8 @@ impl Streams {
     ) -> Result<(), Stop>
         requires { length bytes.now ≤ 2000 }
         ensures counts { IsCounted result (H.outside host.old) (H.outside host.new) }
-        ensures fault { IfErr result IsFault }
+        ensures stops { IfErr result (StopsAt moving_lines) }
+        ensures looked { KeepsLooked (H.outside host.old) (H.outside host.new) }
         ensures files { KeepsFiles (H.outside host.old) (H.outside host.new) }
         ensures reported { OnOk result
             (Reports self.old self.new (H.outside host.old) (H.outside host.new)
@@ -118,7 +122,8 @@ impl Streams {
     /// Appends the report's last line; the schedule's line `end` has this number.
     pub(crate) fn report_end<H: Host>(&mut self, host: &mut H, number: u32) -> Result<(), Stop>
         ensures counts { IsCounted result (H.outside host.old) (H.outside host.new) }
-        ensures fault { IfErr result IsFault }
+        ensures stops { IfErr result (StopsAt moving_lines) }
+        ensures looked { KeepsLooked (H.outside host.old) (H.outside host.new) }
         ensures files { KeepsFiles (H.outside host.old) (H.outside host.new) }
         ensures reported { OnOk result
             (Reports self.old self.new (H.outside host.old) (H.outside host.new)
@@ -131,7 +136,8 @@ impl Streams {
     // Appends the line that was written.
     fn push_line<H: Host>(&mut self, host: &mut H) -> Result<(), Stop>
         ensures counts { IsCounted result (H.outside host.old) (H.outside host.new) }
-        ensures fault { IfErr result IsFault }
+        ensures stops { IfErr result (StopsAt moving_lines) }
+        ensures looked { KeepsLooked (H.outside host.old) (H.outside host.new) }
         ensures files { KeepsFiles (H.outside host.old) (H.outside host.new) }
         ensures reported { OnOk result
             (Reports self.old self.new (H.outside host.old) (H.outside host.new)
@@ -147,7 +153,8 @@ impl Streams {
     // Reads the next block of the schedule, where the last one is taken.
     fn refill<H: Host>(&mut self, host: &mut H) -> Result<(), Stop>
         ensures counts { IsCounted result (H.outside host.old) (H.outside host.new) }
-        ensures fault { IfErr result IsFault }
+        ensures stops { IfErr result (StopsAt moving_lines) }
+        ensures looked { KeepsLooked (H.outside host.old) (H.outside host.new) }
         ensures files { KeepsFiles (H.outside host.old) (H.outside host.new) }
         ensures said { OnOk result
             (KeepsSaid self.old self.new (H.outside host.old) (H.outside host.new)) }
@@ -173,7 +180,8 @@ impl Streams {
     #[tactic(auto, using(crate::proofs::Blocks::next_of_block))]
     pub(crate) fn next_byte<H: Host>(&mut self, host: &mut H) -> Result<Option<u8>, Stop>
         ensures counts { IsCounted result (H.outside host.old) (H.outside host.new) }
-        ensures fault { IfErr result IsFault }
+        ensures stops { IfErr result (StopsAt moving_lines) }
+        ensures looked { KeepsLooked (H.outside host.old) (H.outside host.new) }
         ensures files { KeepsFiles (H.outside host.old) (H.outside host.new) }
         ensures said { OnOk result
             (KeepsSaid self.old self.new (H.outside host.old) (H.outside host.new)) }
@@ -207,7 +215,8 @@ impl Streams {
         line: &mut Line,
     ) -> Result<Fetched, Stop>
         ensures counts { IsCounted result (H.outside host.old) (H.outside host.new) }
-        ensures fault { IfErr result IsFault }
+        ensures stops { IfErr result (StopsAt moving_lines) }
+        ensures looked { KeepsLooked (H.outside host.old) (H.outside host.new) }
         ensures files { KeepsFiles (H.outside host.old) (H.outside host.new) }
         ensures said { OnOk result
             (KeepsSaid self.old self.new (H.outside host.old) (H.outside host.new)) }

@@ -2,7 +2,8 @@
 
 ghost use Rattle.std.specs.Prelude.{◌≡◌, ◌≤◌, ◌+◌, [], length, IfErr, OnOk};
 ghost use Rattle.bm_host.specs.Outside.{SameElsewhere};
-ghost use Rattle.bmcast.specs.Stop.{IsCounted, IsFault};
+ghost use Rattle.bmcast.specs.Stop.{IsCounted};
+ghost use Rattle.bmcast.specs.Kept.{KeepsLooked};
 ghost use Rattle.bmcast.specs.Waiting.{KeepsWaiting};
 
 use crate::stop::Stop;
@@ -16,7 +17,8 @@ pub(crate) fn write_waiting<H: Host, const N: usize>(
     waiting: &mut ArrayVec<u8, N>,
 ) -> Result<(), Stop>
     ensures counts { IsCounted result (H.outside host.old) (H.outside host.new) }
-    ensures fault { IfErr result IsFault }
+    ensures stops { IfErr result (λ stop. stop ≡ Stop.WriteFault role) }
+    ensures looked { KeepsLooked (H.outside host.old) (H.outside host.new) }
     ensures elsewhere { SameElsewhere role (H.outside host.old) (H.outside host.new) }
     ensures waits { OnOk result (KeepsWaiting role waiting.old.items waiting.new.items
         (H.outside host.old) (H.outside host.new)) }
@@ -41,7 +43,8 @@ pub(crate) fn make_room<H: Host, const N: usize>(
 ) -> Result<(), Stop>
     requires { more ≤ N }
     ensures counts { IsCounted result (H.outside host.old) (H.outside host.new) }
-    ensures fault { IfErr result IsFault }
+    ensures stops { IfErr result (λ stop. stop ≡ Stop.WriteFault role) }
+    ensures looked { KeepsLooked (H.outside host.old) (H.outside host.new) }
     ensures elsewhere { SameElsewhere role (H.outside host.old) (H.outside host.new) }
     ensures waits { OnOk result (KeepsWaiting role waiting.old.items waiting.new.items
         (H.outside host.old) (H.outside host.new)) }

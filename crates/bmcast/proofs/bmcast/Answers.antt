@@ -1,6 +1,8 @@
 use Rattle.bmcast.proofs.StopLaws.{caused, left_and_told, told_since, unless_done, bad_line_status}
 use Rattle.bmcast.proofs.RunLaws.{bad_line_told}
 use Rattle.bmcast.proofs.OwedLaws.{owed_answer, owed_stop}
+use Rattle.bmcast.proofs.Reasons.{come_and_told}
+use Rattle.bmcast.specs.Status.{status_of}
 use Rattle.bmcast.specs.StatusLine.{status_line}
 use Rattle.run_words.specs.Pairs.{texts}
 use Rattle.bmcast.specs.declared.Status.TheVariants.{Done}
@@ -23,6 +25,12 @@ returns-in-Err-clause-bad_line g c = rw c.report_stop.ensures.status
 
 pub returns-in-Err-clause-reason : goal.returns-in-Err-clause-reason
 returns-in-Err-clause-reason g c = rw c.report_stop.ensures.status c.in-Err.ensures.reason
+
+pub returns-in-Err-clause-came : goal.returns-in-Err-clause-came
+returns-in-Err-clause-came g c = rw c.report_stop.ensures.status
+    (come_and_told (texts c.args.words.now) (g.H.Host.outside c.args.host.now) (g.H.Host.outside c.run.new.host)
+    (g.H.Host.outside c.report_stop.new.host) c.report_stop.ensures.elsewhere (status_of c.in-Err.stop)
+    c.in-Err.ensures.came)
 
 pub returns-in-Err-clause-files : goal.returns-in-Err-clause-files
 returns-in-Err-clause-files g c = rw c.report_stop.ensures.status

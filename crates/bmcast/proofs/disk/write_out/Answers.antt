@@ -11,6 +11,7 @@ loop-sector-preserved g c =
     (physical c.args.machine.now) (physical c.loop-sector.machine) (physical c.write_sector.new.machine)
     _ _ c.loop-sector.sector below
     c.loop-sector.invariant c.in_ok-write_sector.ensures.counts c.in_ok-write_sector.ensures.files
+    c.in_ok-write_sector.ensures.looked
     c.in_ok-write_sector.ensures.machine c.in_ok-write_sector.ensures.waits
 
 pub returns-clause-out : goal.returns-clause-out

@@ -2,7 +2,7 @@ use Rattle.std.proofs.lemmas.Result.{on_ok_weaker}
 use Rattle.run_words.specs.Options.{seen}
 use Rattle.bmcast.proofs.StopLaws.{bad_line_weaker}
 use Rattle.bmcast.proofs.RunLaws.{done_from, bad_line_since}
-use Rattle.bmcast.proofs.Reasons.{late_reason, early_reason, early_no_bad_line}
+use Rattle.bmcast.proofs.Reasons.{late_come, late_reason, early_come, early_reason, early_no_bad_line}
 use Rattle.bmcast.proofs.run.run.Goals as goal
 
 pub returns-clause-done : goal.returns-clause-done
@@ -28,8 +28,16 @@ returns-clause-reason g c = late_reason _ _ (seen c.in-Some.options) c.run_event
     c.in-Ok.ensures.suitable c.run_events.ensures.late
 
 pub returns-in-Err-clause-bad : goal.returns-in-Err-clause-bad
-returns-in-Err-clause-bad g c = early_no_bad_line (Unit {0}) c.in-Err.stop _ c.in-Err.ensures.early
+returns-in-Err-clause-bad g c = early_no_bad_line (Unit {0}) _ _ c.in-Err.stop _ c.in-Err.ensures.stops
 
 pub returns-in-Err-clause-reason : goal.returns-in-Err-clause-reason
 returns-in-Err-clause-reason g c = early_reason _ _ (seen c.in-Some.options) c.in-Err.stop c.in-Some.ensures.found
-    c.in-Err.ensures.refused c.in-Err.ensures.early
+    c.in-Err.ensures.stops
+
+pub returns-in-Err-clause-came : goal.returns-in-Err-clause-came
+returns-in-Err-clause-came g c = early_come _ _ _ _ _ c.in-Err.stop c.in-Err.ensures.stops c.in-Err.ensures.unopened
+
+pub returns-clause-came : goal.returns-clause-came
+returns-clause-came g c = late_come _ _ _ c.run_events.result
+    (record { choice = seen c.in-Some.options; says = c.in-Some.ensures.found; holds = c.in-Ok.ensures.suitable })
+    c.run_events.ensures.late c.run_events.ensures.opened

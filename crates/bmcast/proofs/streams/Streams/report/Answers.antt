@@ -10,4 +10,5 @@ loop-item-preserved g c =
     c.args.number c.loop-item.item-index c.args.out.now.items.items c.as_slice-item-items.result.now
     Answer c.args.out.now.bytes.items
     c.as_slice-item-items.ensures.value (grind arith) c.loop-item.invariant c.in_ok-report_item.ensures.counts
-    c.in_ok-report_item.ensures.files (rw c.as_slice.ensures.value at c.in_ok-report_item.ensures.reported)
+    c.in_ok-report_item.ensures.files c.in_ok-report_item.ensures.looked
+    (rw c.as_slice.ensures.value at c.in_ok-report_item.ensures.reported)
