@@ -1,4 +1,5 @@
 mod Blocks
+mod Moves
 pub mod Told
 pub mod Entries
 pub mod Values

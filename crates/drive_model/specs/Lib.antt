@@ -2,3 +2,4 @@ pub mod Block
 pub mod Entries
 pub mod CachedStore
 pub mod Drive
+pub mod Data

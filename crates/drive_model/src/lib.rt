@@ -9,6 +9,7 @@
 #![tactic(auto)]
 
 mod cached_store;
+mod data;
 mod drive;
 mod identify;
 mod ports;

@@ -1,6 +1,6 @@
 //! Sectors as words of Data, and words as the bytes of a sector.
 
-ghost use Rattle.std.specs.Prelude.{◌≡◌, length};
+ghost use Rattle.std.specs.Prelude.{◌≡◌, ◌*◌, length};
 ghost use Rattle.plain_drive.specs.Plain.{words_of};
 ghost use Rattle.plain_drive.specs.Words.{bytes_of};
 
@@ -10,9 +10,7 @@ pub fn words_of(bytes: &[u8]) -> [u16; 256]
     ensures { result ≡ words_of bytes.now }
 {
     let mut words = [0; 256];
-    for i in 0..256usize {
-        words[i] = u16::from_le_bytes([bytes[2 * i], bytes[2 * i + 1]]);
-    }
+    get_words(bytes, &mut words);
     words
 }
 
@@ -21,10 +19,28 @@ pub fn bytes_of(words: [u16; 256]) -> [u8; 512]
     ensures { result ≡ bytes_of words }
 {
     let mut bytes = [0; 512];
-    for i in 0..256usize {
+    put_words(&words, &mut bytes);
+    bytes
+}
+
+/// The bytes of words, in place of what `bytes` holds.
+pub(crate) fn put_words(words: &[u16], bytes: &mut [u8])
+    requires { length bytes.old ≡ 2 * length words.now }
+    ensures { bytes.new ≡ bytes_of words.now }
+{
+    for i in 0..words.len() {
         let [low, high] = words[i].to_le_bytes();
         bytes[2 * i] = low;
         bytes[2 * i + 1] = high;
     }
-    bytes
+}
+
+/// The words of bytes, in place of what `words` holds.
+pub(crate) fn get_words(bytes: &[u8], words: &mut [u16])
+    requires { length bytes.now ≡ 2 * length words.old }
+    ensures { words.new ≡ words_of bytes.now }
+{
+    for i in 0..words.len() {
+        words[i] = u16::from_le_bytes([bytes[2 * i], bytes[2 * i + 1]]);
+    }
 }
