@@ -1,5 +1,5 @@
 -- A machine after an access to its drive.
-use Rattle.std.proofs.Common.{◌≡◌, ◌≤◌, ◌^◌, ℕ, List, length, ap, sym, ◌∙◌, arith}
+use Rattle.std.proofs.Common.{◌≡◌, ◌≤◌, ◌^◌, ℕ, List, length, ap, ◌∙◌, arith}
 use Rattle.std.specs.Prelude.{slice_set}
 use Rattle.std.proofs.lemmas.List.{get_or_past, set_past}
 use Rattle.ata_taskfile.specs.Device.{Device}
@@ -7,7 +7,7 @@ use Rattle.bm_dma.specs.Memory.{byte_at}
 use Rattle.drive_store.specs.declared.memory_store.MemoryStore.{MemoryStore}
 use Rattle.drive_store.specs.MemoryStore.{sectors_of}
 use Rattle.plain_drive.specs.Plain.{plain}
-use Rattle.plain_drive.specs.Physical.{Physical, Kept, cells_of, keeping, seen}
+use Rattle.plain_drive.specs.Physical.{Kept, keeping}
 use Rattle.drive_model.specs.CachedStore.{list_told}
 use Rattle.drive_model.specs.Drive.{Behind, behind}
 use Rattle.bmcast.specs.declared.machine.Machine.{Machine}
@@ -29,12 +29,6 @@ pub reached : (old new : Machine) (d : Device) → device new ≡ d → behind n
     → new.memory ≡ old.memory
     → physical new ≡ with_device d (physical old)
 reached old new d is rest memory = moved old new d is (ap kept_behind rest) memory
-
--- what such a machine's guest sees
-pub device_after : (p new : Physical) (d : Device) → new ≡ with_device d p → d.cells ≡ cells_of p.kept
-    → (seen new).device ≡ d
-device_after p new d is cells = ap (λ (q : Physical). (seen q).device) is ∙ ap (λ cs. record d { cells = cs })
-    (sym cells)
 
 -- no byte of memory has a place that no address names
 pub outside : (memory : List ℕ) (place : ℕ) → length memory ≤ 16777216 → 2 ^ 32 ≤ place → byte_at memory place ≡ 255

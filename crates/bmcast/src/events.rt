@@ -16,6 +16,9 @@ use crate::machine::Machine;
 use ata_taskfile::{Phase, Ports, Step, Stepped, Taken, TaskFile};
 use schedule_text::{Emitted, Event, Item};
 
+/// Room for the bytes of as many words as a line can ask for.
+const ROOM: [u8; 512] = [0; 512];
+
 /// Lets the drive act as one event says, and tells what the report says of it.
 pub(crate) fn apply(machine: &mut Machine, event: &Event, out: &mut Emitted)
     requires in_range { IsInRange event.now }
@@ -48,7 +51,7 @@ fn act(machine: &mut Machine, event: &Event, out: &mut Emitted)
         Event::Read8(reg) => answer(out, &[machine.read8(*reg)]),
         Event::Write8(reg, v) => machine.write8(*reg, *v),
         Event::ReadWords(n) => answer_words(machine, *n, out),
-        Event::WriteWords(bytes) => write_words(machine, bytes.as_slice()),
+        Event::WriteWords(bytes) => machine.write_words(bytes.as_slice()),
         Event::ReadPointer => answer(out, &machine.drive.read_pointer().to_be_bytes()),
         Event::WritePointer(v) => machine.write_pointer(*v),
         Event::ReadMemory(address, n) => answer_memory(machine, *address, *n, out),
@@ -84,24 +87,11 @@ fn answer_words(machine: &mut Machine, n: u32, out: &mut Emitted)
         ≡ with_device (after_words n (device machine.old)) (physical machine.old) }
 {
     out.items.push(Item::Answer);
-    for _ in 0..n {
-        let word = machine.read_word();
-        out.bytes.push((word % 256) as u8);
-        out.bytes.push((word / 256) as u8);
-    }
-}
-
-// Writes words to Data, one after the other; each has its low byte first.
-fn write_words(machine: &mut Machine, bytes: &[u8])
-    ensures after { physical machine.new
-        ≡ with_device (after_written (words_of bytes.now) (device machine.old))
-        (physical machine.old) }
-{
-    let mut left = bytes;
-    while let [low, high, rest @ ..] = left {
-        machine.write_word(u16::from_le_bytes([*low, *high]));
-        left = rest;
-    }
+    // Room for two bytes a word, which the drive fills.
+    out.bytes
+        .try_extend_from_slice(&ROOM[..2 * n as usize])
+        .unwrap();
+    machine.read_words(out.bytes.as_mut_slice());
 }
 
 // The answer of a read of the guest's memory.

@@ -1,7 +1,9 @@
 //! The drive and the guest's memory, as a run without a monitor has them.
 
-ghost use Rattle.std.specs.Prelude.{◌≤◌, length};
-ghost use Rattle.ata_taskfile.specs.Device.{after_read8, after_read_word, after_write8, after_write_pointer, after_write_word, byte_read, word_read};
+ghost use Rattle.std.specs.Prelude.{◌≤◌, ◌/◌, ◌%◌, length};
+ghost use Rattle.ata_taskfile.specs.Device.{after_read8, after_write8, after_write_pointer, byte_read};
+ghost use Rattle.plain_drive.specs.Plain.{words_of};
+ghost use Rattle.plain_drive.specs.Words.{words_read, after_words, after_written, bytes_of};
 
 use ata_taskfile::{Ports, Reg};
 use bm_dma::GuestMemory;
@@ -42,23 +44,25 @@ impl Machine {
         self.drive.write8(reg, v);
     }
 
-    /// The guest reads a word from Data.
+    /// The guest reads words from Data, one for each two bytes of `into`, the low byte of each first.
     #[tactic(auto, using(crate::proofs::Machines::reached))]
-    pub(crate) fn read_word(&mut self) -> u16
-        ensures answer { result ≡ word_read (device self.old) }
+    pub fn read_words(&mut self, into: &mut [u8])
+        requires even { length into.old % 2 ≡ 0 }
+        ensures bytes { into.new
+            ≡ bytes_of (words_read (length into.old / 2) (device self.old)) }
         ensures after { physical self.new
-            ≡ with_device (after_read_word (device self.old)) (physical self.old) }
+            ≡ with_device (after_words (length into.old / 2) (device self.old)) (physical self.old) }
     {
-        self.drive.read_word()
+        self.drive.read_words(into);
     }
 
-    /// The guest writes a word to Data.
+    /// The guest writes words to Data, one for each two bytes, the low byte of each first.
     #[tactic(auto, using(crate::proofs::Machines::reached))]
-    pub(crate) fn write_word(&mut self, w: u16)
+    pub fn write_words(&mut self, bytes: &[u8])
         ensures after { physical self.new
-            ≡ with_device (after_write_word w (device self.old)) (physical self.old) }
+            ≡ with_device (after_written (words_of bytes.now) (device self.old)) (physical self.old) }
     {
-        self.drive.write_word(w);
+        self.drive.write_words(bytes);
     }
 
     /// The guest writes the pointer to the descriptor table.

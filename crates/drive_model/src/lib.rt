@@ -2,9 +2,9 @@
 //!
 //! Start with `drive` for the type, then `steps` for what it does of its own and `ports` for the guest's accesses.
 //! `cached_store` has the sectors: a store, and the 64 values at most that were written and aren't durable yet.
-//! `identify` has the words of IDENTIFY DEVICE, and `words` turns sectors into words and back. `specs/Drive.antt` says
-//! which physical drive a drive means; what an access, a step, a destage and a cut do to that is defined in
-//! `ata_taskfile` and `plain_drive`, and `docs/drive.md` has the same as tables.
+//! `data` moves many words of Data at once, `identify` has the words of IDENTIFY DEVICE, and `words` turns sectors into
+//! words and back. `specs/Drive.antt` says which physical drive a drive means; what an access, a step, a destage and a
+//! cut do to that is defined in `ata_taskfile` and `plain_drive`, and `docs/drive.md` has the same as tables.
 
 #![tactic(auto)]
 

@@ -5,7 +5,7 @@ ghost use Rattle.plain_drive.specs.Plain.{words_of};
 ghost use Rattle.plain_drive.specs.Words.{bytes_of};
 
 /// The words of a sector's bytes, the even byte low (ATA/ATAPI-6, Data register).
-pub fn words_of(bytes: &[u8]) -> [u16; 256]
+pub(crate) fn words_of(bytes: &[u8]) -> [u16; 256]
     requires { length bytes.now ≡ 512 }
     ensures { result ≡ words_of bytes.now }
 {
@@ -15,7 +15,7 @@ pub fn words_of(bytes: &[u8]) -> [u16; 256]
 }
 
 /// The bytes of a block's words, the low byte of each first (ATA/ATAPI-6, Data register).
-pub fn bytes_of(words: [u16; 256]) -> [u8; 512]
+pub(crate) fn bytes_of(words: [u16; 256]) -> [u8; 512]
     ensures { result ≡ bytes_of words }
 {
     let mut bytes = [0; 512];

@@ -1,34 +1,23 @@
-use Rattle.std.proofs.Common.{◌≡◌, refl, ap, ◌∙◌, arith}
-use Rattle.ata_taskfile.specs.Device.{after_read_word}
-use Rattle.plain_drive.specs.Physical.{Physical}
-use Rattle.bmcast.specs.Machine.{device, physical}
-use Rattle.bmcast.proofs.EventLaws.{words_left, after_words_left, no_words_left, no_step_left}
-use Rattle.bmcast.proofs.Machines.{device_after, moved}
+use Rattle.std.proofs.Common.{ℕ, ◌≡◌, ◌*◌, ◌/◌, length, ap, ◌∙◌, arith}
+use Rattle.std.proofs.lemmas.Grind.{common_steps}
+use Rattle.std.proofs.lemmas.List.{take_at}
+use Rattle.plain_drive.specs.Words.{words_read, after_words, bytes_of}
+use Rattle.bmcast.specs.Machine.{device, physical, with_device}
 use Rattle.bmcast.proofs.events.answer_words.Goals as goal
-
-pub loop-preserved : goal.loop-preserved
-loop-preserved c =
-    let was = c.loop.machine in
-    let after = c.read_word-word.ensures.after in
-    let step = device_after (physical was) (physical c.read_word-word.new.self) (after_read_word (device was))
-    after refl in (
-      words_left c.args.n c.loop.counter c.read_word-word.result (device was) _ _ _ _ _ c.loop-test.true
-          c.loop.invariant.0 c.read_word-word.ensures.answer step c.push-in-loop.ensures.items
-          c.push-in-loop-2.ensures.items,
-      after_words_left c.args.n c.loop.counter (device was) _ _ c.loop-test.true c.loop.invariant.1 step,
-      omega arith,
-      c.loop.invariant.3,
-      ap (λ (p : Physical). p.kept) after ∙ c.loop.invariant.4,
-      ap (λ (p : Physical). p.memory) after ∙ c.loop.invariant.5,
-    )
 
 pub returns-clause-bytes : goal.returns-clause-bytes
 returns-clause-bytes c =
-    let end : c.loop.counter ≡ c.args.n = omega arith in
-    no_words_left c.args.n (device c.loop.machine) _ _ (rw end at c.loop.invariant.0)
+    let room : length c.try_extend_from_slice.new.self.items ≡ 2 * c.args.n = grind (arith, common_steps) in
+    let lent = ap length c.as_mut_slice.ensures.value in
+    let half : length c.as_mut_slice.result.now / 2 ≡ c.args.n = omega arith in
+    let whole : length c.read_words.new.into ≡ length c.try_extend_from_slice.new.self.items = grind (arith, common_steps) in
+    take_at c.read_words.new.into _ _ whole ∙ c.read_words.ensures.bytes
+    ∙ ap (λ (k : ℕ). bytes_of (words_read k (device c.args.machine.now))) half
 
 pub returns-clause-after : goal.returns-clause-after
 returns-clause-after c =
-    let end : c.loop.counter ≡ c.args.n = omega arith in
-    moved c.args.machine.now c.loop.machine _ (no_step_left c.args.n _ _ (rw end at c.loop.invariant.1))
-    c.loop.invariant.4 c.loop.invariant.5
+    let was = c.args.machine.now in
+    let room : length c.try_extend_from_slice.new.self.items ≡ 2 * c.args.n = grind (arith, common_steps) in
+    let lent = ap length c.as_mut_slice.ensures.value in
+    let half : length c.as_mut_slice.result.now / 2 ≡ c.args.n = omega arith in
+    c.read_words.ensures.after ∙ ap (λ (k : ℕ). with_device (after_words k (device was)) (physical was)) half
