@@ -47,3 +47,5 @@ def run(main: Callable[[], int | None]) -> NoReturn:
         os._exit(130)
     except OSError as error:
         give_up(f"{error.filename}: {error.strerror}" if error.filename else str(error))
+    except UnicodeError as error:
+        give_up(f"a file that is to be text isn't: {error}")
