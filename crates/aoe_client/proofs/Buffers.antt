@@ -6,7 +6,7 @@ use Rattle.std.proofs.Math.Nat.{mul-le-mul_right}
 use Rattle.std.proofs.lemmas.Bool.{cases_eq, cases_lt, cond_below, cond_above, true≢false}
 use Rattle.std.proofs.lemmas.Option.{slice_get_within}
 use Rattle.ata_taskfile.specs.declared.registers.TheConstants.{SECTOR_BYTES}
-use Rattle.mon_pool.specs.Region.{Region, AreOf, IsOf, HasWholeBuffers, leased_bytes}
+use Rattle.mon_pool.specs.Region.{AreOf, HasWholeBuffers, Held, IsOf, Region, given, leased_bytes}
 use Rattle.mon_pool.proofs.Leases.{of_before}
 use Rattle.mon_pool.proofs.Parts.{length_bytes, length_written, part_written, part_kept, own_bytes, others_bytes, whole_written}
 use Rattle.aoe_client.specs.declared.tags.TagState.{TagState}
@@ -88,13 +88,18 @@ module _ (source : ℕ → List ℕ) (tag : ℕ) (sectors : List ℕ) (long : le
             ∙ ap (λ n. source (n + i)) (sym same)
       ]
 
+  -- what another lease shows is as it was
+  pub other_bytes : (lease : Held) → lease.buffer ≢ f.lease.buffer
+      → leased_bytes lease (with_tag_sectors tag sectors f pool) ≡ leased_bytes lease pool
+  other_bytes lease apart =
+      others_bytes pool f.lease (with_part (tag - first_tag f) sectors (leased_bytes f.lease pool)) whole of full
+      lease apart
+
   -- the buffer of another slot holds what it held
   pub other_holds : (g : Fetching) → g.lease.buffer ≢ f.lease.buffer → Holds source (Some g) pool
       → Holds source (Some g) (with_tag_sectors tag sectors f pool)
   other_holds g apart holds i is =
-      ap (part i) (others_bytes pool f.lease (with_part (tag - first_tag f) sectors (leased_bytes f.lease pool))
-      whole of full g.lease apart)
-      ∙ holds i is
+      ap (part i) (other_bytes g.lease apart) ∙ holds i is
 
 -- a slot's lease is of the pool, whose slots have room
 abbrev Ready : Option Fetching → Region → Type 0
@@ -111,6 +116,26 @@ apart_back None None apart = tt
 apart_back None (Some g) apart = tt
 apart_back (Some f) None apart = tt
 apart_back (Some f) (Some g) apart = λ same. apart (sym same)
+
+-- a lease is of another buffer than a slot's
+abbrev IsApart : Held → Option Fetching → Type 0
+IsApart lease None = Unit {0}
+IsApart lease (Some f) = lease.buffer ≢ f.lease.buffer
+
+apart_both : (s t : Option Fetching) (pool : Region) (lease : Held) → AreOf (lease ∷ lease_in s ++ lease_in t) pool
+    → IsApart lease s × IsApart lease t
+apart_both None None pool lease are = (tt, tt)
+apart_both None (Some g) pool lease are =
+    let before = of_before pool lease g.lease are.1.0 in
+    (tt, λ same. before.1 (sym same))
+apart_both (Some f) None pool lease are =
+    let before = of_before pool lease f.lease are.1.0 in
+    (λ same. before.1 (sym same), tt)
+apart_both (Some f) (Some g) pool lease are =
+    let before = of_before pool lease f.lease are.1.0 in
+    let between = of_before (given lease pool) f.lease g.lease are.1.1.0 in
+    let second = of_before pool lease g.lease between.0 in
+    (λ same. before.1 (sym same), λ same. second.1 (sym same))
 
 ready_both : (s t : Option Fetching) (pool : Region) → AreOf (lease_in s ++ lease_in t) pool → HasRoom pool.room s
     → HasRoom pool.room t
@@ -136,6 +161,12 @@ module _ (source : ℕ → List ℕ) (tag : ℕ) (sectors : List ℕ) (long : le
     filled_other_where false g yet apart holds = holds
     filled_other_where true g yet apart holds =
         other_holds source tag sectors long gives f pool whole ready.0 ready.1 yet g apart holds
+
+    filled_bytes_where : (o : Bool) (lease : Held) → is_open (state_of tag f) ≡ o → lease.buffer ≢ f.lease.buffer
+        → leased_bytes lease (cond o (with_tag_sectors tag sectors f pool) pool) ≡ leased_bytes lease pool
+    filled_bytes_where false lease yet apart = refl
+    filled_bytes_where true lease yet apart =
+        other_bytes source tag sectors long gives f pool whole ready.0 ready.1 yet lease apart
 
     filled_whole_where : (o : Bool) → is_open (state_of tag f) ≡ o
         → HasWholeBuffers (cond o (with_tag_sectors tag sectors f pool) pool)
@@ -195,6 +226,25 @@ module _ (source : ℕ → List ℕ) (tag : ℕ) (sectors : List ℕ) (long : le
             (filled_holds d pool whole ready.0 holds.0),
         filled_holds b first whole_first ready_b (filled_other d b pool whole ready.0 ready.2 holds.1),
       )
+
+  filled_bytes : (s : Option Fetching) (pool : Region) → HasWholeBuffers pool → Ready s pool
+      → (lease : Held) → IsApart lease s → leased_bytes lease (slot_filled tag sectors s pool) ≡ leased_bytes lease pool
+  filled_bytes None pool whole ready lease apart = refl
+  filled_bytes (Some f) pool whole ready lease apart =
+      filled_bytes_where f pool whole ready (is_open (state_of tag f)) lease refl apart
+
+  -- a lease of the pool that isn't the client's shows what it did
+  pub others_stay : (c : Asking) (pool : Region) → HasWholeBuffers pool → AreOf (leases_of c) pool
+      → HasRoom pool.room c.demand → HasRoom pool.room c.background
+      → (lease : Held) → AreOf (lease ∷ leases_of c) pool
+      → leased_bytes lease (buffers_heard (Took tag) sectors c pool) ≡ leased_bytes lease pool
+  others_stay c pool whole are room_d room_b lease all =
+      let d = c.demand in let b = c.background in
+      let ready = ready_both d b pool are room_d room_b in
+      let apart = apart_both d b pool lease all in
+      filled_bytes b (slot_filled tag sectors d pool) (filled_whole d pool whole ready.0)
+      (filled_ready d b pool ready.1) lease apart.1
+      ∙ filled_bytes d pool whole ready.0 lease apart.0
 
 -- a pool that serves a client has room for what its slots ask for
 pub has_room : (block room : ℕ) (s : Option Fetching) → HasTags block s → SECTOR_BYTES * block ≤ room → HasRoom room s

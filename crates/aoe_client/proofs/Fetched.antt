@@ -3,8 +3,9 @@ use Rattle.std.proofs.Common.{◌≡◌, ℕ, zero, suc, ◌+◌, ◌*◌, ◌<�
 use Rattle.std.specs.Prelude.{IfSome}
 use Rattle.std.specs.List.{list_all}
 use Rattle.std.proofs.Math.Nat.{suc-mul}
-use Rattle.std.proofs.lemmas.List.{take-append-drop, take-take, drop-take}
-use Rattle.mon_pool.specs.Region.{Region, leased_bytes}
+use Rattle.std.proofs.lemmas.List.{take-append-drop, take-take, drop-drop, drop-take}
+use Rattle.bm_host.specs.Outside.{bytes_at}
+use Rattle.mon_pool.specs.Region.{Held, Region, leased_bytes}
 use Rattle.aoe_client.specs.declared.tags.TagState.{TagState}
 use Rattle.aoe_client.specs.declared.tags.TagState.TheVariants.{Due, Unanswered, Answered}
 use Rattle.aoe_client.specs.declared.tags.TheConstants.{PART_BYTES}
@@ -51,3 +52,26 @@ pub fetched_given : (source : ℕ → List ℕ) (block : ℕ) (s : Option Fetchi
 fetched_given source block None pool count holds = tt
 fetched_given source block (Some f) pool count holds = fetched_where source block f pool
     (list_all is_answered f.tags) refl count holds
+
+module _ (image : List ℕ) (tag : ℕ) where
+  place_behind : (n : ℕ) → drop (PART_BYTES * n) (drop (PART_BYTES * tag) image) ≡ drop (PART_BYTES * (tag + n)) image
+  place_behind n =
+      let sum : PART_BYTES * tag + PART_BYTES * n ≡ PART_BYTES * (tag + n) = omega arith in
+      drop-drop (PART_BYTES * n) (PART_BYTES * tag) image ∙ ap (λ k. drop k image) sum
+
+  -- the two sectors of each of so many tags are the image's bytes from the first of them on
+  given_image : (n : ℕ) → given_from (λ t. bytes_at (PART_BYTES * t) PART_BYTES image) tag n
+      ≡ bytes_at (PART_BYTES * tag) (PART_BYTES * n) image
+  given_image zero = refl
+  given_image (suc n) =
+      let more : PART_BYTES * suc n ≡ PART_BYTES * n + PART_BYTES = omega arith in
+      (λ i. given_image n i ++ take PART_BYTES (sym (place_behind n) i))
+      ∙ sym (take_sum (PART_BYTES * n) PART_BYTES (drop (PART_BYTES * tag) image))
+      ∙ ap (λ k. take k (drop (PART_BYTES * tag) image)) (sym more)
+
+-- a buffer that holds of each tag the image's two sectors holds the image's block
+pub fetched_image : (image : List ℕ) (count : ℕ) (pool : Region) (fetched : ℕ × Held)
+    → IsFetched (λ tag. bytes_at (PART_BYTES * tag) PART_BYTES image) count pool fetched
+    → take (count * PART_BYTES) (leased_bytes fetched.1 pool)
+    ≡ bytes_at (PART_BYTES * (fetched.0 * count)) (PART_BYTES * count) image
+fetched_image image count pool fetched is = is ∙ given_image image (fetched.0 * count) count

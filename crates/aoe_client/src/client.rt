@@ -1,7 +1,7 @@
 //! The client and its calls.
 
-ghost use Rattle.std.specs.Prelude.{◌≡◌, ◌+◌, ◌*◌, ◌<◌, ◌≤◌, ◌^◌, ◌↔◌, ℕ, List, IfErr, IfSome, IsErr, IsSome, OnErr, OnOk, None, Some, is_some, length, true, option_map, slice_get, if◌then◌else◌};
-ghost use Rattle.mon_pool.specs.Region.{AreOf, Region, all_given};
+ghost use Rattle.std.specs.Prelude.{◌≡◌, ◌∷◌, ◌+◌, ◌*◌, ◌<◌, ◌≤◌, ◌^◌, ◌↔◌, ℕ, List, IfErr, IfSome, IsErr, IsSome, OnErr, OnOk, None, Some, is_some, length, true, option_map, slice_get, if◌then◌else◌};
+ghost use Rattle.mon_pool.specs.Region.{AreOf, Held, Region, all_given, leased_bytes};
 ghost use Rattle.fill_bitmap.specs.Area.{IsBlock};
 ghost use Rattle.aoe_client.specs.Asking.{Asking, HasTags, both_ticked, buffers_heard, done_in, due_tags, heard, in_slot, is_awaited, leases_of, next_sent, nothing_asked, tags_in, with_slot};
 ghost use Rattle.aoe_client.specs.Buffers.{BothHold, SourceGives, Holds, IsFetched};
@@ -144,6 +144,8 @@ impl Client {
         ensures kept { (source : ℕ → List ℕ) →
             SourceGives source (sectors_carried frame.now) result →
             BothHold source self.old pool.old → BothHold source self.new pool.new }
+        ensures others { (lease : Held) → AreOf (lease ∷ leases_of self.old) pool.old →
+            leased_bytes lease pool.new ≡ leased_bytes lease pool.old }
         ensures held { AreOf (leases_of self.new) pool.new }
         ensures rest { pool.new ≡ record pool.old { block = pool.new.block } }
     {
@@ -198,7 +200,7 @@ impl Client {
     }
 
     // What the slot asks for.
-    fn in_slot(&self, slot: Slot) -> &Option<Fetch>
+    pub(crate) fn in_slot(&self, slot: Slot) -> &Option<Fetch>
         ensures asks { result.now ≡ in_slot slot self.now }
         ensures tags { HasTags self.now.block result.now }
     {
@@ -231,6 +233,8 @@ impl Client {
         ensures buffers { pool.new ≡ buffers_heard (Heard.Took tag) sectors.now self.old pool.old }
         ensures kept { (source : ℕ → List ℕ) → source tag ≡ sectors.now →
             BothHold source self.old pool.old → BothHold source self.new pool.new }
+        ensures others { (lease : Held) → AreOf (lease ∷ leases_of self.old) pool.old →
+            leased_bytes lease pool.new ≡ leased_bytes lease pool.old }
         ensures held { AreOf (leases_of self.new) pool.new }
         ensures rest { pool.new ≡ record pool.old { block = pool.new.block } }
     {
