@@ -21,18 +21,18 @@ use Rattle.bm_dma.specs.Move.{outcome, bus_next}
 use Rattle.plain_drive.proofs.Ends.{walked_lawful}
 use Rattle.ata_taskfile.specs.TaskFile.{refused}
 use Rattle.ata_taskfile.specs.Device.{Cell, Device, powered_on}
-use Rattle.drive_store.specs.Store.{Becomes}
 use Rattle.plain_drive.specs.Plain.{Plain, with_cells, with_registers}
 use Rattle.plain_drive.specs.Change.{Change, leaves, change_in, change_proceeded}
 use Rattle.plain_drive.specs.Physical.{Kept, Physical, cells_of, kept_after, keeping, seen, physical_step}
 use Rattle.plain_drive.specs.Step.{ended, offered, loaded, words_due, first_wanted, next_wanted, received, good_step_in, bad_step_in, proceeded, position_after}
+use Rattle.drive_model.specs.CachedStore.{IfBothTold}
 use Rattle.drive_model.specs.Drive.{worked}
 use Rattle.drive_model.proofs.Told.{becomes_told, becomes_same, becomes_so}
 
 -- a drive whose sectors alone have changed
 pub kept_becomes : (p : Physical) (n : ℕ) (k new : Kept) (before after : Option (List (List ℕ)))
-    → n ≡ p.sectors → Becomes (λ _ _. k ≡ new) before after
-    → Becomes (λ _ _. (memory : List ℕ) → record p { sectors = n; memory = memory; kept = k } ≡ record p
+    → n ≡ p.sectors → IfBothTold (k ≡ new) before after
+    → IfBothTold ((memory : List ℕ) → record p { sectors = n; memory = memory; kept = k } ≡ record p
     { memory = memory; kept = new }) before after
 kept_becomes p n k new before after same kept = becomes_so (k ≡ new) _ before after
     (λ (kept : k ≡ new) (memory : List ℕ). λ i. record p { sectors = same i; memory = memory; kept = kept i }) kept
@@ -58,11 +58,11 @@ pub worked_becomes : (work : Plain → Plain) → IsBlind work → (change : Cha
     (k : Kept) (new : List ℕ → Physical)
     (before mid after : Option (List (List ℕ))) → n ≡ p.sectors → after ≡ mid
     → ((memory : List ℕ) → new memory ≡ worked leaves work (record p { sectors = n; memory = memory; kept = k }))
-    → Becomes (λ _ _. k ≡ kept_after change p.kept) before mid
-    → Becomes (λ _ _. (memory : List ℕ) → new memory ≡ worked change work (record p { memory = memory })) before after
+    → IfBothTold (k ≡ kept_after change p.kept) before mid
+    → IfBothTold ((memory : List ℕ) → new memory ≡ worked change work (record p { memory = memory })) before after
 worked_becomes work blind change p n k new before mid after same stays done kept =
     let Q : Type 0 = (memory : List ℕ) → new memory ≡ worked change work (record p { memory = memory }) in
-    subst (λ told. Becomes (λ _ _. Q) before told) (sym stays)
+    subst (λ told. IfBothTold (Q) before told) (sym stays)
     (becomes_so (k ≡ kept_after change p.kept) Q before mid
     (λ (kept : k ≡ kept_after change p.kept) (memory : List ℕ).
     done memory
@@ -73,7 +73,7 @@ worked_becomes work blind change p n k new before mid after same stays done kept
 -- what holds for every memory holds for this one
 pub ok_at : {R E : Type 0} (P : List ℕ → Type 0) (memory : List ℕ) (r : Result R E)
     (before after : Option (List (List ℕ)))
-    → OnOk r (Becomes (λ _ _. (m : List ℕ) → P m) before after) → OnOk r (Becomes (λ _ _. P memory) before after)
+    → OnOk r (IfBothTold ((m : List ℕ) → P m) before after) → OnOk r (IfBothTold (P memory) before after)
 ok_at P memory r before after ok = on_ok_weaker r (becomes_so ((m : List ℕ) → P m) (P memory) before after
     (λ all. all memory)) ok
 
@@ -81,14 +81,14 @@ ok_at P memory r before after ok = on_ok_weaker r (becomes_so ((m : List ℕ) �
 pub by_form : {R E : Type 0} (form is : Form) (order : Request) (done : ℕ) (old new : List ℕ → Physical)
     (memory : List ℕ) (r : Result R E)
     (before after : Option (List (List ℕ))) → form ≡ is
-    → OnOk r (Becomes (λ _ _. (m : List ℕ) → new m ≡ worked (change_proceeded is order done (seen (old m)))
+    → OnOk r (IfBothTold ((m : List ℕ) → new m ≡ worked (change_proceeded is order done (seen (old m)))
     (proceeded is order done) (old m)) before after)
-    → OnOk r (Becomes (λ _ _. new memory ≡ worked (change_proceeded form order done (seen (old memory)))
+    → OnOk r (IfBothTold (new memory ≡ worked (change_proceeded form order done (seen (old memory)))
     (proceeded form order done) (old memory)) before after)
 by_form form is order done old new memory r before after e ok =
     let Q = λ (form : Form) (m : List ℕ). new m ≡ worked (change_proceeded form order done (seen (old m)))
     (proceeded form order done) (old m) in
-    subst (λ form. OnOk r (Becomes (λ _ _. Q form memory) before after)) (sym e) (ok_at (Q is) memory r before after ok)
+    subst (λ form. OnOk r (IfBothTold (Q form memory) before after)) (sym e) (ok_at (Q is) memory r before after ok)
 
 -- the words that are due don't depend on the registers
 pub due_over : (k : Kind) (s : ℕ) (d : Device) → words_due k s (powered_on d.cells d.sectors) ≡ words_due k s d
@@ -108,7 +108,7 @@ pub given_becomes : (order : Request) (done : ℕ) (p : Physical) (n : ℕ) (k :
     (powered_on (cells_of p.kept) p.sectors))
     → ((memory : List ℕ) → new memory ≡ worked leaves (offered order done block)
     (record p { sectors = n; memory = memory; kept = k }))
-    → Becomes (λ _ _. (memory : List ℕ) → new memory ≡ worked leaves (loaded order done)
+    → IfBothTold ((memory : List ℕ) → new memory ≡ worked leaves (loaded order done)
     (record p { memory = memory })) before after
 given_becomes order done p n k words block new before mid after same kept stays stay all due given =
     becomes_told ((memory : List ℕ) → new memory ≡ worked leaves (loaded order done) (record p { memory = memory }))
@@ -124,7 +124,7 @@ given_becomes order done p n k words block new before mid after same kept stays 
 pub first_becomes : (order : Request) (done : ℕ) (p : Physical) (new : List ℕ → Physical)
     (before after : Option (List (List ℕ))) → done ≡ 0 → after ≡ before
     → ((memory : List ℕ) → new memory ≡ worked leaves (first_wanted order) (record p { memory = memory }))
-    → Becomes (λ _ _. (memory : List ℕ) → new memory
+    → IfBothTold ((memory : List ℕ) → new memory
     ≡ worked (change_proceeded PioOut order done (seen (record p { memory = memory }))) (received order done)
     (record p { memory = memory })) before after
 first_becomes order done p new before after start stays wanted =

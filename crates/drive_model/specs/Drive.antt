@@ -14,15 +14,15 @@ use Rattle.drive_model.specs.declared.drive.Drive.{Drive}
 abbrev pub store_of : {S : Type 0} {T : Ghosts S} → Drive S T → S
 store_of {S} {T} d = d.sectors.store
 
--- how often a call to its store failed
+-- how often a call to a drive's store failed
 abbrev pub faults_of : {S : Type 0} {T : Ghosts S} → Drive S T → ℕ
 faults_of {S} {T} d = T.faults d.sectors.store
 
--- what no call to its store changes
+-- what no call to a drive's store changes
 abbrev pub rest_of : {S : Type 0} {T : Ghosts S} → Drive S T → T.Rest
 rest_of {S} {T} d = T.rest d.sectors.store
 
--- how many sectors its store has
+-- how many sectors a drive's store has
 abbrev pub count_of : {S : Type 0} {T : Ghosts S} → Drive S T → ℕ
 count_of {S} {T} d = (T.sectors d.sectors.store).count
 
@@ -37,11 +37,11 @@ physical_of {S} {T} d memory = record {
   kept = kept_of d.sectors;
 }
 
--- the device that its guest reaches
+-- the device that a drive's guest reaches
 abbrev pub device_of : {S : Type 0} {T : Ghosts S} → Drive S T → Device
 device_of {S} {T} d = (seen (physical_of d [])).device
 
--- this holds where the store tells its sectors before and after; it doesn't begin to tell them
+-- this holds where a drive's store tells its sectors before and after; one that doesn't never begins to
 abbrev pub IfTold : {S : Type 0} {T : Ghosts S} → Drive S T → Drive S T → Type 0 → Type 0
 IfTold {S} {T} old new P = IfStoreTold old.sectors new.sectors P
 
@@ -54,6 +54,6 @@ pub record Behind (S : Type 0) : Type 0 where
   pub cache : Cached
   pub store : S
 
--- what stands behind those of this drive
+-- what stands behind the registers of this drive
 abbrev pub behind : {S : Type 0} {T : Ghosts S} → Drive S T → Behind S
 behind {S} {T} d = record { cache = d.sectors.cache; store = d.sectors.store }

@@ -2,24 +2,23 @@
 
 ghost use Rattle.std.specs.Prelude.{◌≡◌, ◌<◌, ◌^◌};
 ghost use Rattle.drive_model.specs.Entries.{AreWithin};
+ghost use Rattle.drive_model.specs.declared.cached_store.TheConstants.{MOST_ENTRIES};
 
-use crate::identify::identity;
-use crate::words::words_of;
-use ata_taskfile::{Kind, Stepped};
-use bm_dma::Moved;
+use ata_taskfile::Stepped;
+use ata_taskfile::registers::SECTOR_BYTES;
 use drive_store::{Store, StoreFault};
 use std::alloc::{AllocError, Global};
 use write_cache::Cache;
 
 /// How many written values may wait in the cache (own).
-const MOST_ENTRIES: u32 = 64;
+pub(crate) const MOST_ENTRIES: u32 = 64;
 
-/// A store with the entries that were written and aren't durable yet, 64 at most.
+/// A store with the entries that were written and aren't durable yet, `MOST_ENTRIES` at most.
 #[derive(Drop)]
 pub(crate) struct CachedStore<S: Store> {
     pub(crate) cache: Cache,
     pub(crate) store: S,
-    ghost room: { cache.room ≡ 64 },
+    ghost room: { cache.room ≡ MOST_ENTRIES },
     ghost few: { (S.sectors store).count < 2 ^ 64 },
     ghost within: { AreWithin (S.sectors store).count cache.entries },
 }
@@ -32,9 +31,10 @@ impl<S: Store + Drop> CachedStore<S> {
     /// A store whose sectors are all durable. It fails only for want of memory; no later call takes any.
     pub(crate) fn new(alloc: Global, store: S) -> Result<CachedStore<S>, AllocError>
         ensures fresh { IfOk result (λ c.
-            kept_of c ≡ fresh 64 (list_told (S.sectors store).told)) }
+            kept_of c ≡ fresh MOST_ENTRIES (list_told (S.sectors store).told)) }
         ensures store { IfOk result (λ c. c.store ≡ store) }
     {
+        // A number of sectors that a call answers is below 2^64, and the struct keeps that.
         let _few = store.sectors();
         Ok(CachedStore {
             cache: Cache::new(alloc, MOST_ENTRIES)?,
@@ -46,13 +46,17 @@ impl<S: Store + Drop> CachedStore<S> {
 impl<S: Store> CachedStore<S> {
     ghost use Rattle.std.specs.Prelude.{◌≡◌, ◌<◌, drop, Ok, IfOk, OnOk, is_some, slice_get, true};
     ghost use Rattle.ata_taskfile.specs.declared.Stepped.TheVariants.{Nothing};
-    ghost use Rattle.plain_drive.specs.Step.{stepped_if, words_due};
-    ghost use Rattle.plain_drive.specs.Change.{change_moved, change_without_data, writes, flushes};
+    ghost use Rattle.plain_drive.specs.Step.{stepped_if};
+    ghost use Rattle.plain_drive.specs.Change.{writes, flushes};
     ghost use Rattle.plain_drive.specs.Physical.{kept_after, kept_destaged};
-    ghost use Rattle.drive_model.specs.CachedStore.{CallsStore, IfStoreTold, all_stored, device_over, kept_of, value_kept};
+    ghost use Rattle.drive_model.specs.CachedStore.{CallsStore, IfStoreTold, all_stored, kept_of, value_kept};
 
     /// Fills `into` with the current value of a sector: its newest entry, else what the store has.
-    pub(crate) fn get(&mut self, sector: u64, into: &mut [u8; 512]) -> Result<(), StoreFault>
+    pub(crate) fn get(
+        &mut self,
+        sector: u64,
+        into: &mut [u8; SECTOR_BYTES],
+    ) -> Result<(), StoreFault>
         requires { sector < (S.sectors self.old.store).count }
         ensures called { CallsStore self.old self.new result }
         ensures cache { self.new.cache ≡ self.old.cache }
@@ -68,7 +72,7 @@ impl<S: Store> CachedStore<S> {
     }
 
     /// Writes these bytes to a sector. Where the cache is full its oldest entry becomes durable before.
-    pub(crate) fn put(&mut self, sector: u64, bytes: &[u8; 512]) -> Result<(), StoreFault>
+    pub(crate) fn put(&mut self, sector: u64, bytes: &[u8; SECTOR_BYTES]) -> Result<(), StoreFault>
         requires { sector < (S.sectors self.old.store).count }
         ensures called { CallsStore self.old self.new result }
         ensures after { OnOk result (IfStoreTold self.old self.new
@@ -121,53 +125,5 @@ impl<S: Store> CachedStore<S> {
         };
         self.store.set(entry.sector, &entry.bytes)?;
         Ok(Stepped::Changed)
-    }
-
-    /// Writes a sector that the bus master moved out of memory; what isn't whole reaches no sector (own).
-    pub(crate) fn put_moved(
-        &mut self,
-        moved: Moved,
-        sector: u64,
-        bytes: &[u8; 512],
-    ) -> Result<(), StoreFault>
-        requires { sector < (S.sectors self.old.store).count }
-        ensures called { CallsStore self.old self.new result }
-        ensures after { OnOk result (IfStoreTold self.old self.new
-            (kept_of self.new
-            ≡ kept_after (change_moved moved sector bytes.now) (kept_of self.old))) }
-    {
-        match moved {
-            Moved::Whole => self.put(sector, bytes),
-            Moved::Short(_) | Moved::Outside | Moved::Waiting => Ok(()),
-        }
-    }
-
-    /// Does to the sectors what a command without data does.
-    pub(crate) fn settle(&mut self, kind: Kind) -> Result<(), StoreFault>
-        ensures called { CallsStore self.old self.new result }
-        ensures after { OnOk result (IfStoreTold self.old self.new
-            (kept_of self.new ≡ kept_after (change_without_data kind) (kept_of self.old))) }
-    {
-        match kind {
-            Kind::Flush => self.flush(),
-            Kind::Read | Kind::Write | Kind::Verify | Kind::Identify | Kind::Features => Ok(()),
-        }
-    }
-
-    /// The words that a command gives at a sector.
-    pub(crate) fn words_due(&mut self, kind: Kind, sector: u64) -> Result<[u16; 256], StoreFault>
-        requires { sector < (S.sectors self.old.store).count }
-        ensures called { CallsStore self.old self.new result }
-        ensures cache { self.new.cache ≡ self.old.cache }
-        ensures unmoved { S.sectors self.new.store ≡ S.sectors self.old.store }
-        ensures words { IfOk result (λ words. is_some (S.sectors self.old.store).told ≡ true →
-            words ≡ words_due kind sector (device_over self.old)) }
-    {
-        if let Kind::Identify = kind {
-            return Ok(identity(self.store.sectors()));
-        }
-        let mut bytes = [0; 512];
-        self.get(sector, &mut bytes)?;
-        Ok(words_of(&bytes))
     }
 }

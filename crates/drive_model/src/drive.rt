@@ -4,7 +4,8 @@ ghost use Rattle.std.specs.Prelude.{◌≡◌, length};
 ghost use Rattle.ata_taskfile.specs.Lawful.{IsLawfulState};
 ghost use Rattle.drive_model.specs.Block.{block_of};
 
-use crate::cached_store::CachedStore;
+use crate::cached_store::{CachedStore, MOST_ENTRIES};
+use ata_taskfile::registers::SECTOR_BYTES;
 use ata_taskfile::{Bus, Phase, Stepped, TaskFile};
 use drive_store::{Store, StoreFault};
 use std::alloc::{AllocError, Global};
@@ -33,7 +34,7 @@ impl<S: Store + Drop> Drive<S> {
     pub fn new(alloc: Global, store: S) -> Result<Drive<S>, AllocError>
         ensures power_on { let list = list_told (S.sectors store).told in
             IfOk result (λ d. (memory : List ℕ) → physical_of d memory
-            ≡ physical_at_power_on (fresh 64 list) (S.sectors store).count memory) }
+            ≡ physical_at_power_on (fresh MOST_ENTRIES list) (S.sectors store).count memory) }
         ensures store { IfOk result (λ d. store_of d ≡ store) }
     {
         Ok(Drive {
@@ -76,7 +77,7 @@ impl<S: Store> Drive<S> {
     }
 
     /// Copies the durable value of an existing sector. After `StoreFault` nothing is said of what was copied.
-    pub fn durable(&mut self, sector: u64, into: &mut [u8; 512]) -> Result<(), StoreFault>
+    pub fn durable(&mut self, sector: u64, into: &mut [u8; SECTOR_BYTES]) -> Result<(), StoreFault>
         requires { sector < count_of self.old }
         ensures cause { Counted (faults_of self.old) (faults_of self.new) result }
         ensures rest { rest_of self.new ≡ rest_of self.old }

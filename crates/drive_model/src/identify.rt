@@ -10,7 +10,7 @@ const FIRMWARE_REVISION: &[u8; 8] = b"1.0     ";
 const MODEL_NUMBER: &[u8; 40] = b"BMCAST DRIVE                            ";
 
 /// The 256 words, of a drive of so many sectors.
-pub fn identity(sectors: u64) -> [u16; 256]
+pub(crate) fn identity(sectors: u64) -> [u16; 256]
     ensures { result ≡ identity sectors }
 {
     let mut words = [0; 256];

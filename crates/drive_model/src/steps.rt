@@ -9,13 +9,14 @@ ghost use Rattle.ata_taskfile.specs.TaskFile.{refused};
 ghost use Rattle.ata_taskfile.specs.Data.{moves_by_bus};
 ghost use Rattle.drive_store.specs.Store.{Counted};
 ghost use Rattle.plain_drive.specs.Change.{leaves, change_without_data, change_proceeded};
-ghost use Rattle.plain_drive.specs.Physical.{seen, physical_step};
+ghost use Rattle.plain_drive.specs.Physical.{seen, kept_after, physical_step};
 ghost use Rattle.plain_drive.specs.Step.{good_step_in, acts, acts_in, stepped_if, proceeded, proceeds, ended};
-ghost use Rattle.drive_model.specs.CachedStore.{CallsStore};
+ghost use Rattle.drive_model.specs.CachedStore.{CallsStore, IfStoreTold, kept_of};
 ghost use Rattle.drive_model.specs.Drive.{IfTold, count_of, faults_of, physical_of, rest_of, worked};
 
 use crate::Drive;
-use ata_taskfile::{Form, Phase, Refused, Request, Step, Stepped, Taken};
+use crate::cached_store::CachedStore;
+use ata_taskfile::{Form, Kind, Phase, Refused, Request, Step, Stepped, Taken};
 use bm_dma::GuestMemory;
 use drive_store::{Store, StoreFault};
 
@@ -157,7 +158,7 @@ impl<S: Store> Drive<S> {
             ≡ worked (change_without_data order.kind) ended (physical_of self.old memory))) }
         ensures answer { IfOk result (λ stepped. stepped ≡ Stepped.Changed) }
     {
-        self.sectors.settle(order.kind)?;
+        carry_out(&mut self.sectors, order.kind)?;
         self.end(order, done);
         Ok(Stepped::Changed)
     }
@@ -174,5 +175,17 @@ impl<S: Store> Drive<S> {
         let mut file = self.file;
         file.interrupt_in(Phase::Idle);
         self.put_file(file);
+    }
+}
+
+// Does to the sectors what a command without data does: FLUSH CACHE alone does something.
+fn carry_out<S: Store>(sectors: &mut CachedStore<S>, kind: Kind) -> Result<(), StoreFault>
+    ensures called { CallsStore sectors.old sectors.new result }
+    ensures after { OnOk result (IfStoreTold sectors.old sectors.new
+        (kept_of sectors.new ≡ kept_after (change_without_data kind) (kept_of sectors.old))) }
+{
+    match kind {
+        Kind::Flush => sectors.flush(),
+        Kind::Read | Kind::Write | Kind::Verify | Kind::Identify | Kind::Features => Ok(()),
     }
 }

@@ -4,9 +4,11 @@ ghost use Rattle.std.specs.Prelude.{◌≡◌, ◌*◌, length};
 ghost use Rattle.plain_drive.specs.Plain.{words_of};
 ghost use Rattle.plain_drive.specs.Words.{bytes_of};
 
+use ata_taskfile::registers::SECTOR_BYTES;
+
 /// The words of a sector's bytes, the even byte low (ATA/ATAPI-6, Data register).
 pub(crate) fn words_of(bytes: &[u8]) -> [u16; 256]
-    requires { length bytes.now ≡ 512 }
+    requires { length bytes.now ≡ SECTOR_BYTES }
     ensures { result ≡ words_of bytes.now }
 {
     let mut words = [0; 256];
@@ -15,10 +17,10 @@ pub(crate) fn words_of(bytes: &[u8]) -> [u16; 256]
 }
 
 /// The bytes of a block's words, the low byte of each first (ATA/ATAPI-6, Data register).
-pub(crate) fn bytes_of(words: [u16; 256]) -> [u8; 512]
+pub(crate) fn bytes_of(words: [u16; 256]) -> [u8; SECTOR_BYTES]
     ensures { result ≡ bytes_of words }
 {
-    let mut bytes = [0; 512];
+    let mut bytes = [0; SECTOR_BYTES];
     put_words(&words, &mut bytes);
     bytes
 }

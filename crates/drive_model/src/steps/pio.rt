@@ -1,21 +1,23 @@
 //! Steps of a command whose data moves through Data, a block at a time (ATA/ATAPI-6, PIO data-in and data-out).
 
-ghost use Rattle.std.specs.Prelude.{◌≡◌, ◌≢◌, ◌+◌, ◌-◌, ◌≤◌, ℕ, List, IfOk, OnOk, true};
+ghost use Rattle.std.specs.Prelude.{◌≡◌, ◌≢◌, ◌+◌, ◌-◌, ◌<◌, ◌≤◌, ℕ, List, IfOk, OnOk, is_some, true};
 ghost use Rattle.ata_taskfile.specs.TaskFile.{interrupted_in};
 ghost use Rattle.ata_taskfile.specs.Data.{gives_words, takes_words};
 ghost use Rattle.ata_taskfile.specs.Lawful.{IsLawfulState};
 ghost use Rattle.plain_drive.specs.Words.{bytes_of};
 ghost use Rattle.plain_drive.specs.Change.{leaves, writes, change_proceeded};
 ghost use Rattle.plain_drive.specs.Physical.{seen};
-ghost use Rattle.plain_drive.specs.Step.{offered, loaded, received, first_wanted, next_wanted};
-ghost use Rattle.drive_model.specs.CachedStore.{CallsStore};
+ghost use Rattle.plain_drive.specs.Step.{offered, words_due, loaded, received, first_wanted, next_wanted};
+ghost use Rattle.drive_model.specs.CachedStore.{CallsStore, device_over};
 ghost use Rattle.drive_model.specs.Drive.{IfTold, count_of, physical_of, worked};
 ghost use Rattle.drive_model.specs.Block.{block_of};
 
 use crate::Drive;
-use crate::words::bytes_of;
-use ata_taskfile::registers::BLOCK_WORDS;
-use ata_taskfile::{Form, Phase, Request, Stepped, Taken};
+use crate::cached_store::CachedStore;
+use crate::identify::identity;
+use crate::words::{bytes_of, words_of};
+use ata_taskfile::registers::{BLOCK_WORDS, SECTOR_BYTES};
+use ata_taskfile::{Form, Kind, Phase, Request, Stepped, Taken};
 use drive_store::{Store, StoreFault};
 
 impl<S: Store> Drive<S> {
@@ -30,9 +32,7 @@ impl<S: Store> Drive<S> {
             ≡ worked leaves (loaded order done) (physical_of self.old memory))) }
         ensures answer { IfOk result (λ stepped. stepped ≡ Stepped.Changed) }
     {
-        let words = self
-            .sectors
-            .words_due(order.kind, order.first + done as u64)?;
+        let words = words_due(&mut self.sectors, order.kind, order.first + done as u64)?;
         self.offer(order, done, words, BLOCK_WORDS);
         Ok(Stepped::Changed)
     }
@@ -105,9 +105,9 @@ impl<S: Store> Drive<S> {
 
     // Shows so many words of a block in Data, or wants the rest of it there.
     fn offer(&mut self, order: Request, done: u32, block: [u16; 256], words: u16)
-        requires room { words ≤ 256 }
+        requires room { words ≤ BLOCK_WORDS }
         requires lawful { IsLawfulState
-            (interrupted_in (Phase.Ready (Taken.Good order) done 256) self.old.file)
+            (interrupted_in (Phase.Ready (Taken.Good order) done BLOCK_WORDS) self.old.file)
             self.old.bus words (count_of self.old) }
         ensures after { (memory : List ℕ) → physical_of self.new memory
             ≡ worked leaves (offered order done (block_of block words))
@@ -118,4 +118,25 @@ impl<S: Store> Drive<S> {
         file.interrupt_in(Phase::Ready(Taken::Good(order), done, BLOCK_WORDS));
         self.put_block(file, block, words);
     }
+}
+
+// The words that a command gives at a sector.
+fn words_due<S: Store>(
+    sectors: &mut CachedStore<S>,
+    kind: Kind,
+    sector: u64,
+) -> Result<[u16; 256], StoreFault>
+    requires { sector < (S.sectors sectors.old.store).count }
+    ensures called { CallsStore sectors.old sectors.new result }
+    ensures cache { sectors.new.cache ≡ sectors.old.cache }
+    ensures unmoved { S.sectors sectors.new.store ≡ S.sectors sectors.old.store }
+    ensures words { IfOk result (λ words. is_some (S.sectors sectors.old.store).told ≡ true →
+        words ≡ words_due kind sector (device_over sectors.old)) }
+{
+    if let Kind::Identify = kind {
+        return Ok(identity(sectors.store.sectors()));
+    }
+    let mut bytes = [0; SECTOR_BYTES];
+    sectors.get(sector, &mut bytes)?;
+    Ok(words_of(&bytes))
 }

@@ -3,14 +3,16 @@
 ghost use Rattle.std.specs.Prelude.{◌≡◌, ◌+◌, ◌<◌, ◌^◌, ℕ, List, Ok, IfOk, OnOk, length, true};
 ghost use Rattle.ata_taskfile.specs.Data.{moves_by_bus};
 ghost use Rattle.ata_taskfile.specs.Lawful.{IsLawfulState};
-ghost use Rattle.plain_drive.specs.Change.{leaves, change_walked, change_proceeded};
-ghost use Rattle.plain_drive.specs.Physical.{seen};
+ghost use Rattle.plain_drive.specs.Change.{leaves, change_moved, change_walked, change_proceeded};
+ghost use Rattle.plain_drive.specs.Physical.{seen, kept_after};
 ghost use Rattle.plain_drive.specs.Step.{stepped_if, proceeded, proceeds, walked, sector_given, transferred, position_after};
-ghost use Rattle.drive_model.specs.CachedStore.{CallsStore};
+ghost use Rattle.drive_model.specs.CachedStore.{CallsStore, IfStoreTold, kept_of};
 ghost use Rattle.drive_model.specs.Drive.{IfTold, count_of, physical_of, worked};
 ghost use Rattle.drive_model.specs.Block.{block_of};
 
 use crate::Drive;
+use crate::cached_store::CachedStore;
+use ata_taskfile::registers::SECTOR_BYTES;
 use ata_taskfile::{Bus, Form, Phase, Request, Stepped, Taken};
 use bm_dma::{GuestMemory, Moved, move_in, move_out};
 use drive_store::{Store, StoreFault};
@@ -81,7 +83,7 @@ impl<S: Store> Drive<S> {
         ensures after { OnOk result (IfTold self.old self.new (physical_of self.new memory.new
             ≡ worked leaves (sector_given order done) (physical_of self.old memory.old))) }
     {
-        let mut sector = [0; 512];
+        let mut sector = [0; SECTOR_BYTES];
         self.sectors.get(order.first + done as u64, &mut sector)?;
         let mut bus = self.bus;
         let moved = move_in(&mut bus, memory, &sector);
@@ -104,11 +106,10 @@ impl<S: Store> Drive<S> {
             OnOk result (IfTold self.old self.new (physical_of self.new memory.now
             ≡ worked (change_walked order done (seen p)) (walked order done) p)) }
     {
-        let mut sector = [0; 512];
+        let mut sector = [0; SECTOR_BYTES];
         let mut bus = self.bus;
         let moved = move_out(&mut bus, memory, &mut sector);
-        self.sectors
-            .put_moved(moved, order.first + done as u64, &sector)?;
+        put_moved(&mut self.sectors, moved, order.first + done as u64, &sector)?;
         self.put_walk(order, position_after(moved, done), bus);
         Ok(())
     }
@@ -126,6 +127,25 @@ impl<S: Store> Drive<S> {
     {
         self.bus = bus;
         self.file.phase = Phase::Busy(Taken::Good(order), done);
+    }
+}
+
+// Writes a sector that the bus master moved out of memory; what isn't whole reaches no sector (own).
+fn put_moved<S: Store>(
+    sectors: &mut CachedStore<S>,
+    moved: Moved,
+    sector: u64,
+    bytes: &[u8; SECTOR_BYTES],
+) -> Result<(), StoreFault>
+    requires { sector < (S.sectors sectors.old.store).count }
+    ensures called { CallsStore sectors.old sectors.new result }
+    ensures after { OnOk result (IfStoreTold sectors.old sectors.new
+        (kept_of sectors.new
+        ≡ kept_after (change_moved moved sector bytes.now) (kept_of sectors.old))) }
+{
+    match moved {
+        Moved::Whole => sectors.put(sector, bytes),
+        Moved::Short(_) | Moved::Outside | Moved::Waiting => Ok(()),
     }
 }
 

@@ -11,4 +11,4 @@ returns-clause-after g c =
     let stays = same_told _ _ c.end.ensures.sectors in
     worked_becomes ended ended_blind (change_without_data c.args.order.kind) (physical_of c.args.self.now [])
     _ _ _ _ _ _
-    c.in_ok-settle.ensures.called.count stays c.end.ensures.after c.in_ok-settle.ensures.after
+    c.in_ok-carry_out.ensures.called.count stays c.end.ensures.after c.in_ok-carry_out.ensures.after

@@ -1,11 +1,10 @@
 use Rattle.std.proofs.Common.{◌≡◌, ◌+◌, ◌-◌, [], ap, subst, sym, ◌∙◌, length, take, arith}
-use Rattle.drive_store.specs.Store.{Becomes}
 use Rattle.plain_drive.specs.Words.{bytes_of}
 use Rattle.plain_drive.specs.Change.{writes}
 use Rattle.plain_drive.specs.Physical.{kept_after}
 use Rattle.plain_drive.specs.Step.{next_wanted}
 use Rattle.plain_drive.proofs.Ends.{block_whole}
-use Rattle.drive_model.specs.CachedStore.{kept_of}
+use Rattle.drive_model.specs.CachedStore.{IfBothTold, kept_of}
 use Rattle.drive_model.specs.Drive.{physical_of}
 use Rattle.drive_model.proofs.Blocks.{whole_block}
 use Rattle.drive_model.proofs.Told.{same_told}
@@ -21,7 +20,7 @@ returns-clause-after g c =
     let size : length d.block ≡ 256 = omega arith in
     let all : take d.words d.block ≡ d.block = ap (λ n. take n d.block) full ∙ whole_block d.block size in
     let bytes : c.bytes_of.result ≡ bytes_of (take d.words d.block) = c.bytes_of.ensures ∙ ap bytes_of (sym all) in
-    let put = subst (λ v. Becomes (λ _ _. kept_of c.put.new.self ≡ kept_after (writes (order.first + (done - 1)) v)
+    let put = subst (λ v. IfBothTold (kept_of c.put.new.self ≡ kept_after (writes (order.first + (done - 1)) v)
     (kept_of d.sectors))
     (g.S.Store.sectors d.sectors.store).told (g.S.Store.sectors c.put.new.self.store).told) bytes
     c.in_ok-put.ensures.after in
