@@ -212,7 +212,8 @@ class Drive:
 
     def meet_put(self, event: Event, items: Items) -> str:
         if event.number >= len(self.cache):
-            return f", without effect: the cache has {many(len(self.cache), 'entry').replace('entrys', 'entries')}"
+            held = "1 entry" if len(self.cache) == 1 else f"{len(self.cache)} entries"
+            return f", without effect: the cache has {held}"
         sector, data = self.cache[event.number]
         older = [entry for entry in self.cache[: event.number] if entry[0] == sector]
         self.keep(sector, data)
@@ -334,9 +335,10 @@ class Drive:
             self.keep(*entry)
         self.cache = []
         self.end()
-        durable = f"sectors {', '.join(map(str, sectors))} are" if len(sectors) > 1 else f"sector {sectors[0]} is" \
-            if sectors else "nothing was in the cache, and all is"
-        return f"{durable} durable; it ends, with an interrupt"
+        if not sectors:
+            return "the cache was empty; it ends, with an interrupt"
+        named = f"sectors {', '.join(map(str, sectors))} are" if len(sectors) > 1 else f"sector {sectors[0]} is"
+        return f"{named} durable; it ends, with an interrupt"
 
     def move(self) -> str:
         """A sector goes by the next places of the table."""
@@ -351,7 +353,7 @@ class Drive:
             self.stop_walk()
             if is_read:
                 self.move_in(places, self.current(sector))
-                return f"{many(len(places), 'byte')} of sector {sector} go to memory, and the table ends: the walk too"
+                return f"{many(len(places), 'byte')} of sector {sector} go to memory; there the table ends, and the walk"
             room = many(len(places), "byte")
             return f"the table has {room} for sector {sector}: nothing is written, and the walk ends"
         if is_read:
