@@ -3,6 +3,8 @@
 //! Start with `Client`. `specs/Asking.antt` says what each call does, `specs/Fetching.antt` what one slot holds,
 //! `specs/Messages.antt` which frame is a request and which a reply, and `specs/Buffers.antt` what the buffers hold.
 //! `docs/network.md` has the same as tables.
+//!
+//! The tests are in `src/tests.rt`.
 
 #![tactic(auto)]
 

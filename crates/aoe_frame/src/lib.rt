@@ -4,6 +4,8 @@
 //! `addresses` names who talks. `Bytes`, a list of bytes with a bound, stands by itself: schedules use it too.
 //! `specs/Layout.antt` has the one layout of the bytes that both calls are about, in wire order, and
 //! `specs/Reading.antt` what `parse` answers, fault by fault. `docs/network.md` has the same as tables.
+//!
+//! The tests are in `src/tests.rt`, and those of `Bytes` in `src/bytes.rt`.
 
 #![tactic(auto)]
 

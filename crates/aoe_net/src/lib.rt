@@ -1,6 +1,8 @@
 //! The network between the monitor and the image server: the frames that are under way, in two lists.
 //!
 //! Start with `Net`. `specs/Wire.antt` says what each call does to the lists.
+//!
+//! The tests are in `src/tests.rt`.
 
 #![tactic(auto)]
 

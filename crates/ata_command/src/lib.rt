@@ -2,6 +2,8 @@
 //!
 //! `read_request` is the one call. Its clause cites `order_of`, which stands with the device in
 //! `ata_taskfile` (`specs/Order.antt`); `docs/drive.md` has the same table.
+//!
+//! The tests are in `src/tests.rt`.
 
 #![tactic(auto)]
 

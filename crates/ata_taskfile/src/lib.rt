@@ -6,6 +6,8 @@
 //! call does to the registers and the phase, `specs/Device.antt` and `Access.antt` what an access does to the whole
 //! device, `specs/Order.antt` which order a command byte gives, and `specs/Lawful.antt` what every device keeps.
 //! `docs/drive.md` has the same rules as tables.
+//!
+//! The tests are in `src/tests.rt`.
 
 #![tactic(auto)]
 

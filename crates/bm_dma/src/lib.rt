@@ -4,6 +4,8 @@
 //! `specs/Descriptor.antt` says what a descriptor is and when it is bad, `specs/Run.antt` which places in memory a
 //! table names, and `specs/Move.antt` what moving a sector answers and changes. `docs/drive.md` has the same rules as
 //! tables.
+//!
+//! The tests are in `src/tests.rt`.
 
 #![tactic(auto)]
 

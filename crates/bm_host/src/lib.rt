@@ -7,6 +7,9 @@
 //! `specs/Outside.antt` says what a host holds and what a call may change, `specs/Host.antt` what each call does,
 //! `specs/MemoryHost.antt` when a call of a `MemoryHost` fails, and `specs/QuietHost.antt` what a `QuietHost` tells.
 //! `proofs/OutsideLaws.antt` has the laws for those who make several calls.
+//!
+//! Each host's tests are in the file `tests.rt` of its folder, and those of a file by its role in
+//! `src/role_file/tests.rt`.
 
 #![tactic(auto)]
 

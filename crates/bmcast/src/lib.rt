@@ -4,6 +4,8 @@
 //! is promised of a run that is done or ends at a bad line, `specs/Status.antt` what each status owes, and
 //! `specs/Streams.antt` and `specs/Played.antt` what the reading of a schedule and the writing of a report keep.
 //! `docs/proofs.md` says the same in words.
+//!
+//! The tests are those of the crate `worked_runs`.
 
 #![tactic(auto)]
 

@@ -2,6 +2,8 @@
 //!
 //! It reads the words of the command line, lets `bmcast` do what they say, and ends with the status's number.
 //! `docs/formats.md` has the words and the statuses.
+//!
+//! Its test is the run without words, whose end the files `stdout` and `status` of this crate hold.
 
 #![tactic(auto)]
 

@@ -2,6 +2,8 @@
 //!
 //! Start with `number_of`. `is_decimal` and `value` are its two halves, for a caller to whom a text of another form and
 //! a number that is too large aren't the same. `specs/Decimal.antt` says what a decimal is.
+//!
+//! The tests are in `src/tests.rt`.
 
 #![tactic(auto)]
 

@@ -5,6 +5,8 @@
 //! `data` moves many words of Data at once, `identify` has the words of IDENTIFY DEVICE, and `words` turns sectors into
 //! words and back. `specs/Drive.antt` says which physical drive a drive means; what an access, a step, a destage and a
 //! cut do to that is defined in `ata_taskfile` and `plain_drive`, and `docs/drive.md` has the same as tables.
+//!
+//! The tests are in `src/tests.rt`, and those of whole commands in the files of `src/runs/`.
 
 #![tactic(auto)]
 

@@ -5,6 +5,8 @@
 //!
 //! `specs/Store.antt` says what a store holds and what a call owes, `specs/MemoryStore.antt` what a store in memory
 //! tells, and `specs/FailingStore.antt` when a call of a `FailingStore` fails.
+//!
+//! The tests are in `src/tests.rt`.
 
 #![tactic(auto)]
 

@@ -3,6 +3,8 @@
 //! It lets the drive's own line rise for a guest whose command the monitor served. Start with `dummy` for the calls.
 //! `specs/Flight.antt` says where the drive may stand with one, and what its end leaves; `docs/monitor.md` has the
 //! rules as tables.
+//!
+//! The tests are those of the crate `monitor_runs`, over the real drive.
 
 #![tactic(auto)]
 

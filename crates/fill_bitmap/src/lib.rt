@@ -5,6 +5,8 @@
 //! what each size is, `specs/Lengths.antt` why lengths are refused, `specs/Bitmap.antt` what the bitmap's sets are,
 //! `specs/Bits.antt` the bytes of its sectors, and `specs/Disk.antt` what a disk with them says and shows.
 //! `docs/monitor.md` has the same as tables.
+//!
+//! The tests are in `src/tests.rt`.
 
 #![tactic(auto)]
 

@@ -5,6 +5,8 @@
 //! call here reaches a device. `specs/Opening.antt` and `specs/Settle.antt` say both as tables, and
 //! `specs/OpeningCells.antt` and `specs/SettleCells.antt` what then stands on the drive and what a power cut may leave
 //! of it. `docs/monitor.md` has the same in words.
+//!
+//! The tests are in `src/tests.rt`.
 
 #![tactic(auto)]
 

@@ -6,6 +6,8 @@
 //! `specs/Request.antt` and `specs/Reply.antt` have the reply as a function of what a frame was read as and of the
 //! image, a line for each row of the table in `docs/network.md`; `specs/Serving.antt` says what serving it over a
 //! host answers and changes.
+//!
+//! The tests are in `src/tests.rt`.
 
 #![tactic(auto)]
 

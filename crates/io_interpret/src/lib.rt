@@ -4,6 +4,8 @@
 //! Start with `classify`, then `first_piece`. `specs/Blocks.antt` says which empty block a sector lies in and when a
 //! range touches one, `specs/Class.antt` which class a request has, and `specs/Piece.antt` how far a piece goes.
 //! `docs/monitor.md` has the same as tables. No call here reaches a device.
+//!
+//! The tests are in `src/tests.rt`.
 
 #![tactic(auto)]
 

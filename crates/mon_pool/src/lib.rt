@@ -2,6 +2,8 @@
 //!
 //! Start with `Pool`. `specs/Region.antt` says what a pool holds and what each call does to it, `specs/Lending.antt`
 //! how a lease's bytes are lent.
+//!
+//! The tests are in `src/tests.rt`.
 
 #![tactic(auto)]
 

@@ -2,6 +2,8 @@
 //!
 //! Start with `OwnJob` for what a command is to do, then `own` for the calls. `specs/Job.antt` says what a job asks the
 //! drive for, and `specs/Running.antt` where the drive may stand with it; `docs/monitor.md` has the rules as tables.
+//!
+//! The tests are those of the crate `monitor_runs`, over the real drive.
 
 #![tactic(auto)]
 

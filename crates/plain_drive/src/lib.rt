@@ -10,6 +10,8 @@
 //! these. `specs/Alike.antt` says when a guest can't tell two drives apart, and the laws in `alike` show that no access
 //! and no step tells. The functions below are laws that show what the other definitions mean, in that order;
 //! `docs/drive.md` has the same as tables.
+//!
+//! It has no tests of its own: those of `drive_model` try its rules over a drive.
 
 #![tactic(auto)]
 

@@ -5,6 +5,8 @@
 //! that has no monitor. `specs/Taken.antt` says where a report tells that the drive took a command, and
 //! `specs/Written.antt` which sectors such lines name as written. The functions below are laws that show what the
 //! definitions mean; `docs/drive.md` has the same in words.
+//!
+//! It has no tests of its own: those of `worked_runs` try its rules over whole runs.
 
 #![tactic(auto)]
 

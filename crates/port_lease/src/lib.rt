@@ -5,6 +5,8 @@
 //! what a guest's access does on its own side; `writing` has what the monitor writes to a drive at rest, for its own
 //! commands too. `specs/Seen.antt` says what the guest sees on either side, `specs/Handover.antt` what a change of
 //! sides makes of drive and view, and `docs/monitor.md` has the rules as tables.
+//!
+//! The tests are those of the crate `monitor_runs`, over the real drive.
 
 #![tactic(auto)]
 

@@ -2,6 +2,8 @@
 //!
 //! Start with `read_options`. `specs/Pairs.antt` has what words are pairs of a name and a value, and
 //! `specs/Options.antt` what pairs say; `docs/formats.md` has the same as a table.
+//!
+//! The tests are in `src/tests.rt`.
 
 #![tactic(auto)]
 

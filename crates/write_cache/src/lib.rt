@@ -2,6 +2,8 @@
 //!
 //! Start with `Cache`. `specs/Cache.antt` says what each call does to the list of entries; the functions of `laws`
 //! say what that means for the values of one sector.
+//!
+//! The tests are in `src/tests.rt`.
 
 #![tactic(auto)]
 
