@@ -1,6 +1,6 @@
 -- What one slot of the client asks for, and what each event does to it.
 use Rattle.std.specs.Prelude.{ℕ, ◌+◌, ◌-◌, ◌*◌, ◌==◌, nat_lt, Bool, true, false, List, [], ◌∷◌, length, take, drop, map, replicate, slice_get, slice_set, Option, Some, None, if◌then◌else◌}
-use Rattle.mon_pool.specs.Region.{Held, Region, leased_bytes, with_bytes, written_over}
+use Rattle.mon_pool.specs.Region.{Held, Region, leased_bytes, with_bytes, spliced}
 use Rattle.aoe_client.specs.declared.tags.TagState.{TagState}
 use Rattle.aoe_client.specs.declared.tags.TagState.TheVariants.{Due, Unanswered, Answered}
 use Rattle.aoe_client.specs.declared.tags.TheConstants.{PART_BYTES, RESEND_AGE}
@@ -84,7 +84,7 @@ part i bytes = take PART_BYTES (drop (i * PART_BYTES) bytes)
 
 -- the bytes of a block with these two sectors at its i-th tag
 abbrev pub with_part : ℕ → List ℕ → List ℕ → List ℕ
-with_part i sectors bytes = written_over (i * PART_BYTES) sectors bytes
+with_part i sectors bytes = spliced (i * PART_BYTES) sectors bytes
 
 -- a pool once a tag's two sectors are in the buffer
 abbrev pub with_tag_sectors : ℕ → List ℕ → Fetching → Region → Region

@@ -3,12 +3,12 @@ use Rattle.std.proofs.Common.{◌≡◌, ◌≢◌, ℕ, suc, ◌+◌, ◌-◌, 
 use Rattle.std.proofs.lemmas.Bool.{cases_lt}
 use Rattle.std.proofs.lemmas.List.{take_all, take_at, drop_at, take-append-le, drop-append-le, take-take, drop-drop, drop-take}
 use Rattle.std.proofs.Math.Nat.{mul-le-mul_right}
-use Rattle.mon_pool.specs.Region.{Held, Region, HasWholeBuffers, IsOf, written_over, leased_bytes, with_bytes}
+use Rattle.mon_pool.specs.Region.{Held, Region, HasWholeBuffers, IsOf, spliced, leased_bytes, with_bytes}
 use Rattle.mon_pool.proofs.Leases.{buffer_within}
 
 module _ (at : ℕ) (bytes block : List ℕ) (fits : at + length bytes ≤ length block) where
   -- bytes that fit are written whole, with nothing cut off
-  written_is : written_over at bytes block ≡ take at block ++ (bytes ++ drop (length bytes) (drop at block))
+  written_is : spliced at bytes block ≡ take at block ++ (bytes ++ drop (length bytes) (drop at block))
   written_is =
       let rest = drop (length bytes) (drop at block) in
       take_all (length block) (take at block ++ (bytes ++ rest)) (omega (
@@ -21,17 +21,17 @@ module _ (at : ℕ) (bytes block : List ℕ) (fits : at + length bytes ≤ lengt
       ))
 
   -- from the place on stand the bytes and what was behind them
-  written_from : drop at (written_over at bytes block) ≡ bytes ++ drop (length bytes) (drop at block)
+  written_from : drop at (spliced at bytes block) ≡ bytes ++ drop (length bytes) (drop at block)
   written_from =
       let rest = drop (length bytes) (drop at block) in
       ap (drop at) written_is ∙ drop_at (take at block) (bytes ++ rest) at (omega (arith, length-take at block))
 
-  pub written_there : take (length bytes) (drop at (written_over at bytes block)) ≡ bytes
+  pub written_there : take (length bytes) (drop at (spliced at bytes block)) ≡ bytes
   written_there = ap (take (length bytes)) written_from ∙ take_at bytes (drop (length bytes) (drop at block))
       (length bytes) refl
 
   -- a part that ends before the written bytes is as it was
-  pub written_below : (place n : ℕ) → place + n ≤ at → take n (drop place (written_over at bytes block)) ≡ take n
+  pub written_below : (place n : ℕ) → place + n ≤ at → take n (drop place (spliced at bytes block)) ≡ take n
       (drop place block)
   written_below place n before =
       let more = bytes ++ drop (length bytes) (drop at block) in
@@ -48,12 +48,12 @@ module _ (at : ℕ) (bytes block : List ℕ) (fits : at + length bytes ≤ lengt
 
   -- a part that begins behind the written bytes is as it was
   pub written_above : (place : ℕ) → at + length bytes ≤ place
-      → drop place (written_over at bytes block) ≡ drop place block
+      → drop place (spliced at bytes block) ≡ drop place block
   written_above place behind =
       let n = length bytes in let j = place - (at + n) in
       let sum : place ≡ at + (n + j) = omega arith in
-      ap (λ k. drop k (written_over at bytes block)) sum
-      ∙ sym (drop-drop (n + j) at (written_over at bytes block))
+      ap (λ k. drop k (spliced at bytes block)) sum
+      ∙ sym (drop-drop (n + j) at (spliced at bytes block))
       ∙ ap (drop (n + j)) written_from
       ∙ sym (drop-drop j n (bytes ++ drop n (drop at block)))
       ∙ ap (drop j) (drop_at bytes (drop n (drop at block)) n refl)
@@ -64,7 +64,7 @@ module _ (at : ℕ) (bytes block : List ℕ) (fits : at + length bytes ≤ lengt
 -- a block of parts of one length, of which part k is written
 module _ (n k : ℕ) (bytes block : List ℕ) (long : length bytes ≡ n) (fits : k * n + n ≤ length block) where
   -- the length of the block stays
-  pub length_written : length (written_over (k * n) bytes block) ≡ length block
+  pub length_written : length (spliced (k * n) bytes block) ≡ length block
   length_written = ap length (written_is (k * n) bytes block (omega (arith, long, fits))) ∙ omega (
     arith,
     long,
@@ -77,14 +77,14 @@ module _ (n k : ℕ) (bytes block : List ℕ) (long : length bytes ≡ n) (fits 
   )
 
   -- part k is what was written
-  pub part_written : take n (drop (k * n) (written_over (k * n) bytes block)) ≡ bytes
+  pub part_written : take n (drop (k * n) (spliced (k * n) bytes block)) ≡ bytes
   part_written =
-      ap (λ m. take m (drop (k * n) (written_over (k * n) bytes block))) (sym long)
+      ap (λ m. take m (drop (k * n) (spliced (k * n) bytes block))) (sym long)
       ∙ written_there (k * n) bytes block (omega (arith, long, fits))
 
   -- each part but k is as it was
   pub part_kept : (i : ℕ) → i ≢ k
-      → take n (drop (i * n) (written_over (k * n) bytes block)) ≡ take n (drop (i * n) block)
+      → take n (drop (i * n) (spliced (k * n) bytes block)) ≡ take n (drop (i * n) block)
   part_kept i apart = elim (cases_lt i k) [
     | inl below ↦ written_below (k * n) bytes block (omega (arith, long, fits)) (i * n) n
         (omega (arith, mul-le-mul_right n below))

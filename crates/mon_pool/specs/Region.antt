@@ -80,12 +80,12 @@ all_given (lease ∷ leases) pool = all_given leases (given lease pool)
 abbrev pub leased_bytes : Held → Region → List ℕ
 leased_bytes lease pool = take pool.room (drop (lease.buffer * pool.room) pool.block)
 
--- bytes written over as many from this place on; where they reach past the end, the rest is cut off
-abbrev pub written_over : ℕ → List ℕ → List ℕ → List ℕ
-written_over place bytes block =
+-- a block in which these bytes stand from this place on, over as many; what would reach past its end is cut off
+abbrev pub spliced : ℕ → List ℕ → List ℕ → List ℕ
+spliced place bytes block =
     take (length block) (take place block ++ (bytes ++ drop (length bytes) (drop place block)))
 
 -- a pool once these bytes, as many as a buffer has, are written through a lease
 abbrev pub with_bytes : Held → Region → List ℕ → Region
 with_bytes lease pool bytes =
-    record pool { block = written_over (lease.buffer * pool.room) bytes pool.block }
+    record pool { block = spliced (lease.buffer * pool.room) bytes pool.block }
