@@ -9,7 +9,7 @@ use crate::runs::bench::Bench;
 use ata_taskfile::Access::{Line, Read8, ReadPointer, ReadWord, Write8, WritePointer, WriteWord};
 use ata_taskfile::{Access, Answer, Ports, Reg, Step, Stepped, perform};
 use bm_dma::GuestMemory;
-use drive_store::{MemoryStore, Store};
+use drive_store::{MemoryStore, SECTOR_BYTES, Store};
 use std::alloc::{AllocError, Global};
 use std::test::Fail;
 
@@ -17,7 +17,7 @@ use std::test::Fail;
 fn two_sectors(alloc: Global) -> Result<Drive<MemoryStore>, AllocError>
     ensures { IfOk result (λ d. (device_of d).sectors ≡ 2) }
 {
-    let mut bytes = [0; 512];
+    let mut bytes = [0; SECTOR_BYTES];
     bytes[0] = 0x34;
     bytes[1] = 0x12;
     bytes[510] = 0xcd;
@@ -27,14 +27,27 @@ fn two_sectors(alloc: Global) -> Result<Drive<MemoryStore>, AllocError>
     Drive::new(alloc, store)
 }
 
+// The first access that doesn't answer as it says, by its number from 0 on.
+fn first_other<S: Store>(drive: &mut Drive<S>, accesses: &[(Access, Answer)]) -> Option<usize> {
+    for (i, (access, want)) in accesses.iter().enumerate() {
+        if perform(drive, access) != *want {
+            return Some(i);
+        }
+    }
+    None
+}
+
 #[test]
 fn the_first_step_ends_power_on(rt: HostRuntime) -> Result<(), Fail> {
     let mut drive = two_sectors(rt.alloc())?;
     let mut memory = GuestMemory::new(rt.alloc(), 16)?;
-    assert_eq!(rt; drive.read8(Reg::Status), 0x80);
-    assert_eq!(rt; drive.step(Step::Good, &mut memory), Ok(Stepped::Changed));
-    assert_eq!(rt; drive.read8(Reg::Status), 0x50);
-    assert_eq!(rt; drive.step(Step::Good, &mut memory), Ok(Stepped::Nothing));
+    let before = drive.read8(Reg::Status);
+    let first = drive.step(Step::Good, &mut memory);
+    let after = drive.read8(Reg::Status);
+    let second = drive.step(Step::Good, &mut memory);
+    assert_eq!(rt; [before, after], [0x80, 0x50]);
+    assert!(rt; first == Ok(Stepped::Changed));
+    assert!(rt; second == Ok(Stepped::Nothing));
     Ok(())
 }
 
@@ -42,8 +55,7 @@ fn the_first_step_ends_power_on(rt: HostRuntime) -> Result<(), Fail> {
 fn a_sector_is_read_by_words(rt: HostRuntime) -> Result<(), Fail> {
     let mut bench = Bench::new(rt.alloc(), two_sectors(rt.alloc())?)?;
     bench.give_narrow(0x20, 1, 1);
-    assert_eq!(rt; bench.drive.read8(Reg::Status), 0x80);
-    assert_eq!(rt; bench.drive.read_word(), 0xffff);
+    assert_eq!(rt; first_other(&mut bench.drive, &BEFORE_THE_BLOCK), None);
     assert!(rt; bench.steps_to(Step::Good, true, 0x58));
     for i in 0..256usize {
         let want = match i {
@@ -53,16 +65,25 @@ fn a_sector_is_read_by_words(rt: HostRuntime) -> Result<(), Fail> {
         };
         assert_eq!(rt; bench.drive.read_word(), want, "word {i}");
     }
-    assert_eq!(rt; bench.drive.read8(Reg::Status), 0x50);
-    assert_eq!(rt; bench.drive.read_word(), 0xffff);
+    assert_eq!(rt; first_other(&mut bench.drive, &BEHIND_THE_BLOCK), None);
     Ok(())
 }
+
+const BEFORE_THE_BLOCK: [(Access, Answer); 2] = [
+    (Read8(Reg::Status), Answer::Byte(0x80)),
+    (ReadWord, Answer::Word(0xffff)),
+];
+
+const BEHIND_THE_BLOCK: [(Access, Answer); 2] = [
+    (Read8(Reg::Status), Answer::Byte(0x50)),
+    (ReadWord, Answer::Word(0xffff)),
+];
 
 #[test]
 fn a_durable_value_is_copied(rt: HostRuntime) -> Result<(), Fail> {
     let mut drive = two_sectors(rt.alloc())?;
-    let mut sector = [0; 512];
-    assert_eq!(rt; drive.durable(1, &mut sector), Ok(()));
+    let mut sector = [0; SECTOR_BYTES];
+    assert!(rt; drive.durable(1, &mut sector).is_ok());
     assert_eq!(rt; [sector[0], sector[511]], [0x34, 0xab]);
     assert!(rt; !drive.file().failed);
     Ok(())
@@ -90,9 +111,7 @@ const ACCESSES_IN_RESET: [(Access, Answer); 15] = [
 #[test]
 fn accesses_in_reset(rt: HostRuntime) -> Result<(), Fail> {
     let mut drive = two_sectors(rt.alloc())?;
-    for (access, want) in ACCESSES_IN_RESET {
-        assert_eq!(rt; perform(&mut drive, &access), want, "{access:?}");
-    }
+    assert_eq!(rt; first_other(&mut drive, &ACCESSES_IN_RESET), None);
     Ok(())
 }
 
@@ -121,9 +140,7 @@ fn each_rise_of_the_line_shows(rt: HostRuntime) -> Result<(), Fail> {
     bench.give_narrow(0x20, 0, 1);
     let _changed = bench.step(Step::Good);
     assert!(rt; bench.drive.pending());
-    for (access, want) in ACCESSES_BELOW_NIEN {
-        assert_eq!(rt; perform(&mut bench.drive, &access), want, "{access:?}");
-    }
+    assert_eq!(rt; first_other(&mut bench.drive, &ACCESSES_BELOW_NIEN), None);
     assert!(rt; !bench.drive.pending());
     assert_eq!(rt; bench.drive.read_word(), 0);
     Ok(())

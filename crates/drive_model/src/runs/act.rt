@@ -4,11 +4,12 @@ ghost use Rattle.std.specs.Prelude.{◌<◌};
 
 use super::bench::Bench;
 use super::store::FourSectors;
+use ata_taskfile::registers::SECTOR_BYTES;
 use ata_taskfile::{Ports, Reg, Step, Stepped};
 use drive_store::StoreFault;
 
 /// One thing that is done to a drive, with what it is to give.
-#[derive(Clone, Copy, Debug, PartialEq, Eq)]
+#[derive(Clone, Copy)]
 pub(crate) enum Act {
     Read(Reg, u8),
     Write(Reg, u8),
@@ -124,7 +125,7 @@ impl Act {
 
 // Whether the first and the last byte of a sector's durable value are this.
 fn is_durable(bench: &mut Bench<FourSectors>, sector: u64, byte: u8) -> bool {
-    let mut value = [0; 512];
+    let mut value = [0; SECTOR_BYTES];
     sector < 4
         && bench.drive.durable(sector, &mut value) == Ok(())
         && [value[0], value[511]] == [byte, byte]

@@ -4,7 +4,7 @@ use super::act::Act;
 use super::act::Act::{
     Cut, Destage, Durable, Flushes, Narrow, Offers, Quiet, Read, Reads, Take, Writes,
 };
-use super::{FAULT, GOOD, Run, check, failing_sectors, first_wrong, four_sectors};
+use super::{FAULT, GOOD, NO_CALL, Run, check, first_wrong, four_sectors, wrong_in};
 use ata_taskfile::Reg::Status;
 use ata_taskfile::Stepped::{Changed, Nothing};
 use drive_store::StoreFault;
@@ -150,14 +150,13 @@ const FAULTS: [(&str, u32, &[Act]); 5] = [
         0,
         &[Writes(1, 0xa1), Destage(0, Err(StoreFault))],
     ),
-    ("none of these", u32::MAX, &[Narrow(0x20, 1, 1), Offers]),
+    ("none of these", NO_CALL, &[Narrow(0x20, 1, 1), Offers]),
 ];
 
 #[test]
 fn stores_that_fail(rt: HostRuntime) -> Result<(), Fail> {
-    for (name, failing, acts) in FAULTS {
-        let mut bench = failing_sectors(rt.alloc(), failing)?;
-        assert_eq!(rt; first_wrong(&mut bench, acts), None, "{name}");
+    for &(name, failing, acts) in &FAULTS {
+        assert_eq!(rt; wrong_in(rt.alloc(), failing, &[], acts)?, None, "{name}");
     }
     Ok(())
 }

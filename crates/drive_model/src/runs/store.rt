@@ -3,7 +3,7 @@
 ghost use Rattle.std.specs.Prelude.{◌≡◌};
 ghost use Rattle.drive_store.specs.FailingStore.{sectors_behind, faults_so_far};
 
-use drive_store::{FailingStore, MemoryStore, Store, StoreFault};
+use drive_store::{FailingStore, MemoryStore, SECTOR_BYTES, Store, StoreFault};
 use std::alloc::{AllocError, Global};
 
 // That there are four is a fact of its type, so a sector below 4 is one of the drive's.
@@ -18,10 +18,10 @@ impl FourSectors {
     pub(crate) fn new(alloc: Global, failing: u32) -> Result<FourSectors, AllocError> {
         let mut memory = MemoryStore::new(alloc, 4)?;
         let _none_fails = [
-            memory.set(0, &[0x10; 512]),
-            memory.set(1, &[0x11; 512]),
-            memory.set(2, &[0x12; 512]),
-            memory.set(3, &[0x13; 512]),
+            memory.set(0, &[0x10; SECTOR_BYTES]),
+            memory.set(1, &[0x11; SECTOR_BYTES]),
+            memory.set(2, &[0x12; SECTOR_BYTES]),
+            memory.set(3, &[0x13; SECTOR_BYTES]),
         ];
         Ok(FourSectors {
             inner: FailingStore::new(memory, failing),
@@ -44,11 +44,11 @@ impl Store for FourSectors {
         4
     }
 
-    fn get(&mut self, sector: u64, into: &mut [u8; 512]) -> Result<(), StoreFault> {
+    fn get(&mut self, sector: u64, into: &mut [u8; SECTOR_BYTES]) -> Result<(), StoreFault> {
         self.inner.get(sector, into)
     }
 
-    fn set(&mut self, sector: u64, from: &[u8; 512]) -> Result<(), StoreFault> {
+    fn set(&mut self, sector: u64, from: &[u8; SECTOR_BYTES]) -> Result<(), StoreFault> {
         self.inner.set(sector, from)
     }
 }
