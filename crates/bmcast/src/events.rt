@@ -5,6 +5,7 @@ ghost use Rattle.ata_taskfile.specs.Lawful.{is_just_taken};
 ghost use Rattle.plain_drive.specs.Plain.{words_of};
 ghost use Rattle.plain_drive.specs.Physical.{seen};
 ghost use Rattle.plain_drive.specs.Words.{words_read, after_words, after_written, bytes_of};
+ghost use Rattle.schedule_text.specs.declared.TheConstants.{ANSWER_BYTES, EVENT_BYTES, EVENT_WORDS};
 ghost use Rattle.schedule_text.specs.Line.{IsInRange};
 ghost use Rattle.plain_run.specs.Entry.{answer_bytes, answer_items, entry_of};
 ghost use Rattle.plain_run.specs.Guest.{answer_due, memory_read, memory_written};
@@ -14,10 +15,10 @@ ghost use Rattle.bmcast.specs.Machine.{device, physical, with_device, with_memor
 
 use crate::machine::Machine;
 use ata_taskfile::{Phase, Ports, Step, Stepped, Taken, TaskFile};
-use schedule_text::{Emitted, Event, Item};
+use schedule_text::{Emitted, Event, Item, WORD_BYTES};
 
 /// Room for the bytes of as many words as a line can ask for.
-const ROOM: [u8; 512] = [0; 512];
+const ROOM: [u8; WORD_BYTES] = [0; WORD_BYTES];
 
 /// Lets the drive act as one event says, and tells what the report says of it.
 pub(crate) fn apply(machine: &mut Machine, event: &Event, out: &mut Emitted)
@@ -68,7 +69,7 @@ fn act(machine: &mut Machine, event: &Event, out: &mut Emitted)
 fn answer(out: &mut Emitted, bytes: &[u8])
     requires items { out.old.items.items ≡ [] }
     requires none { out.old.bytes.items ≡ [] }
-    requires few { length bytes.now ≤ 2000 }
+    requires few { length bytes.now ≤ ANSWER_BYTES }
     ensures items { out.new.items.items ≡ Item.Answer ∷ [] }
     ensures bytes { out.new.bytes.items ≡ bytes.now }
 {
@@ -78,7 +79,7 @@ fn answer(out: &mut Emitted, bytes: &[u8])
 
 // The answer of so many reads of Data, one after the other.
 fn answer_words(machine: &mut Machine, n: u32, out: &mut Emitted)
-    requires range { n ≤ 256 }
+    requires range { n ≤ EVENT_WORDS }
     requires items { out.old.items.items ≡ [] }
     requires bytes { out.old.bytes.items ≡ [] }
     ensures items { out.new.items.items ≡ Item.Answer ∷ [] }
@@ -96,7 +97,7 @@ fn answer_words(machine: &mut Machine, n: u32, out: &mut Emitted)
 
 // The answer of a read of the guest's memory.
 fn answer_memory(machine: &Machine, address: u32, n: u32, out: &mut Emitted)
-    requires range { n ≤ 2000 }
+    requires range { n ≤ EVENT_BYTES }
     requires items { out.old.items.items ≡ [] }
     requires bytes { out.old.bytes.items ≡ [] }
     ensures items { out.new.items.items ≡ Item.Answer ∷ [] }
@@ -111,7 +112,7 @@ fn answer_memory(machine: &Machine, address: u32, n: u32, out: &mut Emitted)
 
 // Writes the guest's memory.
 fn write_memory(machine: &mut Machine, address: u32, bytes: &[u8])
-    requires few { length bytes.now ≤ 2000 }
+    requires few { length bytes.now ≤ ANSWER_BYTES }
     ensures after { physical machine.new
         ≡ with_memory (memory_written address bytes.now machine.old.memory) (physical machine.old) }
 {

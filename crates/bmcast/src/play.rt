@@ -21,7 +21,7 @@ use crate::stop::Stop;
 use crate::streams::{Fetched, Line, Streams};
 use arrayvec::ArrayVec;
 use bm_host::Host;
-use schedule_text::{Emitted, Event, LAST_LINE, LineFault, read_line};
+use schedule_text::{Emitted, Event, LAST_LINE, LineFault, read_event};
 
 /// Whether a schedule goes on.
 #[derive(Clone, Copy, Debug, PartialEq, Eq)]
@@ -48,9 +48,12 @@ pub(crate) fn play<H: Host>(
         → HasFailed start streams.new (H.outside host.new) (physical machine.new) bad kind) }
 {
     let mut line = ArrayVec::new();
+    let mut event = Event::Remark;
     let mut out = Emitted::new();
     for number in 1..=LAST_LINE {
-        match play_line(host, streams, machine, &mut line, &mut out, number) {
+        match play_line(
+            host, streams, machine, &mut line, &mut event, &mut out, number,
+        ) {
             Ok(Progress::More) => {}
             Ok(Progress::Ended) => return Ok(number),
             Err(stop) => return Err(stop),
@@ -66,6 +69,7 @@ fn play_line<H: Host>(
     streams: &mut Streams,
     machine: &mut Machine,
     line: &mut Line,
+    event: &mut Event,
     out: &mut Emitted,
     number: u32,
 ) -> Result<Progress, Stop>
@@ -87,7 +91,7 @@ fn play_line<H: Host>(
         Ok(()) => {}
         Err(stop) => return Err(stop),
     }
-    match do_line(host, streams, machine, line, out, number) {
+    match do_line(host, streams, machine, line, event, out, number) {
         Ok(Progress::More) => Ok(Progress::More),
         Ok(Progress::Ended) => match expect_end(host, streams, number) {
             Ok(()) => Ok(Progress::Ended),
@@ -126,12 +130,13 @@ fn take_line<H: Host>(
 
 // Does what a line says, whose number this is, and reports it.
 //
-// An event has 2 KiB: it stays where `read_line` made it.
+// An event has 2 KiB, so each is read into the place of the one before.
 fn do_line<H: Host>(
     host: &mut H,
     streams: &mut Streams,
     machine: &mut Machine,
     line: &Line,
+    event: &mut Event,
     out: &mut Emitted,
     number: u32,
 ) -> Result<Progress, Stop>
@@ -150,11 +155,10 @@ fn do_line<H: Host>(
         line.now.items number
         → HasFailed start streams.new (H.outside host.new) (physical machine.new) bad kind) }
 {
-    let said = read_line(line.as_slice());
-    let event = match &said {
-        Ok(event) => event,
-        Err(fault) => return Err(Stop::BadLine(number, *fault)),
-    };
+    match read_event(line.as_slice(), event) {
+        Ok(()) => {}
+        Err(fault) => return Err(Stop::BadLine(number, fault)),
+    }
     let progress = match progress_after(event, number) {
         Ok(progress) => progress,
         Err(stop) => return Err(stop),

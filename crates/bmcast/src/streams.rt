@@ -2,6 +2,7 @@
 
 ghost use Rattle.std.specs.Prelude.{◌≡◌, ◌≤◌, ◌<◌, ◌+◌, [], length, take, IfErr, IfOk, OnOk};
 ghost use Rattle.schedule_text.specs.Schedule.{IsOneLine};
+ghost use Rattle.schedule_text.specs.declared.TheConstants.{ANSWER_BYTES};
 
 use crate::stop::Stop;
 use crate::waiting::{make_room, write_waiting};
@@ -106,7 +107,7 @@ impl Streams {
         item: &Item,
         bytes: &[u8],
     ) -> Result<(), Stop>
-        requires { length bytes.now ≤ 2000 }
+        requires { length bytes.now ≤ ANSWER_BYTES }
         ensures counts { IsCounted result (H.outside host.old) (H.outside host.new) }
         ensures stops { IfErr result (StopsAt moving_lines) }
         ensures looked { KeepsLooked (H.outside host.old) (H.outside host.new) }

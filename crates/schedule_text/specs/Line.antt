@@ -11,7 +11,7 @@ use Rattle.schedule_text.specs.declared.Event.{Event}
 use Rattle.schedule_text.specs.declared.Event.TheVariants as event
 use Rattle.schedule_text.specs.declared.LineFault.{LineFault}
 use Rattle.schedule_text.specs.declared.LineFault.TheVariants as fault
-use Rattle.schedule_text.specs.declared.TheConstants.{LINE_BYTES}
+use Rattle.schedule_text.specs.declared.TheConstants.{LINE_BYTES, EVENT_WORDS, WORD_BYTES, EVENT_BYTES, ANSWER_BYTES, LAST_PLACE}
 
 -- the name of a register in a schedule (own)
 abbrev pub register_text : Reg → List ℕ
@@ -60,15 +60,15 @@ AreSomeBytes most bytes = AreBytes bytes × (1 ≤ length bytes) × (length byte
 abbrev pub IsInRange : Event → Type 0
 IsInRange (event.Read8 r) = Unit {0}
 IsInRange (event.Write8 r v) = v < 256
-IsInRange (event.ReadWords n) = (1 ≤ n) × (n ≤ 256)
-IsInRange (event.WriteWords bytes) = AreSomeBytes 512 bytes × (length bytes % 2 ≡ 0)
+IsInRange (event.ReadWords n) = (1 ≤ n) × (n ≤ EVENT_WORDS)
+IsInRange (event.WriteWords bytes) = AreSomeBytes WORD_BYTES bytes × (length bytes % 2 ≡ 0)
 IsInRange event.ReadPointer = Unit {0}
 IsInRange (event.WritePointer v) = v < 2 ^ 32
-IsInRange (event.ReadMemory a n) = (a < 2 ^ 32) × (1 ≤ n) × (n ≤ 2000)
-IsInRange (event.WriteMemory a bytes) = (a < 2 ^ 32) × AreSomeBytes 2000 bytes
+IsInRange (event.ReadMemory a n) = (a < 2 ^ 32) × (1 ≤ n) × (n ≤ EVENT_BYTES)
+IsInRange (event.WriteMemory a bytes) = (a < 2 ^ 32) × AreSomeBytes ANSWER_BYTES bytes
 IsInRange event.Line = Unit {0}
 IsInRange (event.Drive s) = Unit {0}
-IsInRange (event.Destage k) = k ≤ 63
+IsInRange (event.Destage k) = k ≤ LAST_PLACE
 IsInRange event.Cut = Unit {0}
 IsInRange event.Remark = Unit {0}
 IsInRange event.End = Unit {0}
@@ -108,10 +108,10 @@ IsBeyond low high text =
 
 -- a line has an event's shape up to its decimal number, and that number is out of range (own)
 abbrev pub HasBeyond : List ℕ → Type 0
-HasBeyond line = ((text : List ℕ) × (line ≡ codes "g rd " ++ text) × IsBeyond 1 256 text)
+HasBeyond line = ((text : List ℕ) × (line ≡ codes "g rd " ++ text) × IsBeyond 1 EVENT_WORDS text)
     ⊎ ((a : ℕ) × (text : List ℕ) × (a < 2 ^ 32) × (line ≡ codes "g mr " ++ hex_long a ++ 32 ∷ text)
-    × IsBeyond 1 2000 text)
-    ⊎ ((text : List ℕ) × (line ≡ codes "d put " ++ text) × IsBeyond 0 63 text)
+    × IsBeyond 1 EVENT_BYTES text)
+    ⊎ ((text : List ℕ) × (line ≡ codes "d put " ++ text) × IsBeyond 0 LAST_PLACE text)
 
 -- the same of a line that isn't too long
 abbrev pub IsOutOfRange : List ℕ → Type 0

@@ -2,14 +2,17 @@
 
 ghost use Rattle.std.specs.Prelude.{◌≡◌, []};
 
-use crate::Item;
+use crate::{ANSWER_BYTES, Item};
 use arrayvec::ArrayVec;
+
+/// The report's lines that one event may give (own).
+const MOST_ITEMS: usize = 80;
 
 /// What one event gave: its items in order of happening, and the bytes of its answer.
 #[derive(Drop)]
 pub struct Emitted {
-    pub items: ArrayVec<Item, 80>,
-    pub bytes: ArrayVec<u8, 2000>,
+    pub items: ArrayVec<Item, MOST_ITEMS>,
+    pub bytes: ArrayVec<u8, ANSWER_BYTES>,
 }
 
 impl Emitted {

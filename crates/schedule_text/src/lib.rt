@@ -17,7 +17,7 @@ mod write;
 use aoe_frame::Bytes;
 use ata_taskfile::{Reg, Step};
 pub use emitted::Emitted;
-pub use read::{line_says_one_event, read_line};
+pub use read::{line_says_one_event, read_event, read_line};
 pub use schedule::{a_schedule_has_no_bad_line, one_first_bad_line, one_schedule};
 pub use write::{write_end, write_item};
 
@@ -27,6 +27,21 @@ pub const LINE_BYTES: usize = 4096;
 /// The last number that a schedule's line can have. Only the line `end` may have it.
 pub const LAST_LINE: u32 = u32::MAX - 1;
 
+/// The words that one line may move through Data.
+pub const EVENT_WORDS: u32 = 256;
+
+/// Their bytes.
+pub const WORD_BYTES: usize = 512;
+
+/// The bytes of memory that one line may move, and so the most that an event answers.
+pub const EVENT_BYTES: u32 = 2000;
+
+/// The same as a size.
+pub const ANSWER_BYTES: usize = 2000;
+
+/// The last place in the drive's cache that a line can name.
+pub const LAST_PLACE: u32 = 63;
+
 /// What one line of a schedule says.
 #[derive(Clone, Debug, Drop, PartialEq, Eq)]
 pub enum Event {
@@ -34,23 +49,23 @@ pub enum Event {
     Read8(Reg),
     /// The guest writes a register.
     Write8(Reg, u8),
-    /// The guest reads so many words from Data, one after the other: 1 to 256.
+    /// The guest reads so many words from Data, one after the other: 1 to `EVENT_WORDS`.
     ReadWords(u32),
-    /// The guest writes words to Data, one after the other: 1 to 256, the low byte of each first.
-    WriteWords(Bytes<512>),
+    /// The guest writes words to Data, one after the other: 1 to `EVENT_WORDS`, the low byte of each first.
+    WriteWords(Bytes<WORD_BYTES>),
     /// The guest reads the pointer to the descriptor table.
     ReadPointer,
     /// The guest writes the pointer to the descriptor table.
     WritePointer(u32),
-    /// The guest reads its memory: from an address on so many bytes, 1 to 2,000.
+    /// The guest reads its memory: from an address on so many bytes, 1 to `EVENT_BYTES`.
     ReadMemory(u32, u32),
-    /// The guest writes its memory: from an address on 1 to 2,000 bytes.
-    WriteMemory(u32, Bytes<2000>),
+    /// The guest writes its memory: from an address on 1 to `EVENT_BYTES` bytes.
+    WriteMemory(u32, Bytes<ANSWER_BYTES>),
     /// The guest looks at the interrupt line.
     Line,
     /// The drive makes a step.
     Drive(Step),
-    /// The entry of the drive's cache at a place becomes durable: 0 to 63, the oldest first.
+    /// The entry of the drive's cache at a place becomes durable: 0 to `LAST_PLACE`, the oldest first.
     Destage(u32),
     /// The power is cut, and comes again.
     Cut,

@@ -6,7 +6,7 @@ ghost use Rattle.schedule_text.specs.declared.Event.{Event as EventOf};
 ghost use Rattle.schedule_text.specs.Line.{hex_long, Says, ReadsInto, HasFault, IsOutOfRange, IsFormless};
 
 use crate::parts::{address_and_rest, bytes, long, number, register, register_and_byte};
-use crate::{Event, LINE_BYTES, LineFault};
+use crate::{EVENT_BYTES, EVENT_WORDS, Event, LAST_PLACE, LINE_BYTES, LineFault};
 use ata_taskfile::Step;
 
 /// What one line of a schedule says. `line` is without its line feed.
@@ -22,15 +22,24 @@ pub fn read_line(line: &[u8]) -> Result<Event, LineFault>
     ensures form { (result ≡ Err LineFault.Form) ↔ IsFormless line.now }
     ensures number { (result ≡ Err LineFault.Number) ↔ IsOutOfRange line.now }
 {
-    if line.len() > LINE_BYTES {
-        return Err(LineFault::LongLine);
-    }
     let mut event = Event::Remark;
-    read_short_line(line, &mut event)?;
+    read_event(line, &mut event)?;
     Ok(event)
 }
 
-// What the line says is put in place of `event`, and so below: an event is large, and is made where it is to stand.
+/// Puts what one line of a schedule says in place of `event`: an event is large, and so is made where it is to stand.
+///
+/// `line` is without its line feed. After a fault nothing is said of `event`.
+pub fn read_event(line: &[u8], event: &mut Event) -> Result<(), LineFault>
+    ensures reads { ReadsInto line.now event.new result }
+{
+    if line.len() > LINE_BYTES {
+        return Err(LineFault::LongLine);
+    }
+    read_short_line(line, event)
+}
+
+// The same of a line that isn't too long; so below, of what stands behind a line's first words.
 fn read_short_line(line: &[u8], event: &mut Event) -> Result<(), LineFault>
     requires { length line.now ≤ LINE_BYTES }
     ensures reads { ReadsInto line.now event.new result }
@@ -106,7 +115,7 @@ fn read_words(digits: &[u8], event: &mut Event) -> Result<(), LineFault>
     requires { 5 + length digits.now ≤ LINE_BYTES }
     ensures reads { ReadsInto (codes "g rd " ++ digits.now) event.new result }
 {
-    match number(digits, 1, 256) {
+    match number(digits, 1, EVENT_WORDS) {
         Ok(count) => *event = Event::ReadWords(count),
         Err(fault) => return Err(fault),
     }
@@ -154,7 +163,7 @@ fn read_count(address: u32, digits: &[u8], event: &mut Event) -> Result<(), Line
     ensures reads { ReadsInto (codes "g mr " ++ hex_long address ++ 32 ∷ digits.now)
         event.new result }
 {
-    match number(digits, 1, 2000) {
+    match number(digits, 1, EVENT_BYTES) {
         Ok(count) => *event = Event::ReadMemory(address, count),
         Err(fault) => return Err(fault),
     }
@@ -187,7 +196,7 @@ fn read_destage(digits: &[u8], event: &mut Event) -> Result<(), LineFault>
     requires { 6 + length digits.now ≤ LINE_BYTES }
     ensures reads { ReadsInto (codes "d put " ++ digits.now) event.new result }
 {
-    match number(digits, 0, 63) {
+    match number(digits, 0, LAST_PLACE) {
         Ok(place) => *event = Event::Destage(place),
         Err(fault) => return Err(fault),
     }

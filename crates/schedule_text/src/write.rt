@@ -3,6 +3,7 @@
 ghost use Rattle.std.specs.Prelude.{◌≡◌, ◌≤◌, ◌+◌, ◌*◌, ◌++◌, ◌∷◌, [], length, decimal};
 ghost use Rattle.schedule_text.specs.Line.{hex_digit, hex_byte, hex_text};
 ghost use Rattle.schedule_text.specs.Report.{item_text, line_text, end_text};
+ghost use Rattle.schedule_text.specs.declared.TheConstants.{ANSWER_BYTES};
 
 use crate::Item;
 use arrayvec::ArrayVec;
@@ -11,7 +12,7 @@ use itoa::Buffer;
 /// Puts one line of a report in place of what `into` holds, its line feed included. `number` is the number of the
 /// event's line, and `bytes` the answer of the event, which only `Item::Answer` tells.
 pub fn write_item(number: u32, item: &Item, bytes: &[u8], into: &mut ArrayVec<u8, 4096>)
-    requires { length bytes.now ≤ 2000 }
+    requires { length bytes.now ≤ ANSWER_BYTES }
     ensures line { into.new.items ≡ line_text number item.now bytes.now }
 {
     into.clear();
@@ -34,7 +35,7 @@ pub fn write_end(number: u32, into: &mut ArrayVec<u8, 4096>)
 
 // A line's number and a space are 21 bytes at most. 4,023 are these, `o ` and 2,000 bytes in hexadecimal.
 fn push_item(item: &Item, bytes: &[u8], into: &mut ArrayVec<u8, 4096>)
-    requires short { length bytes.now ≤ 2000 }
+    requires short { length bytes.now ≤ ANSWER_BYTES }
     requires room { length into.old.items ≤ 21 }
     ensures text { into.new.items ≡ into.old.items ++ item_text item.now bytes.now }
     ensures len { length into.new.items ≤ 4023 }

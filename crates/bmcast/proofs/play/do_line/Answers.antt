@@ -9,14 +9,14 @@ use Rattle.bmcast.proofs.play.do_line.Goals as goal
 
 pub returns-in-Err-clause-bad : goal.returns-in-Err-clause-bad
 returns-in-Err-clause-bad g c = λ start.
-    let fault = rw (c.in-Err.is, c.as_slice.ensures.value) at c.read_line-said.ensures.fault in
+    let fault = rw c.as_slice.ensures.value at c.in-Err.ensures.reads in
     taken_failed start c.args.streams.now (g.H.Host.outside c.args.host.now) _ c.args.line.now.items
     c.args.number c.args.number c.in-Err.fault
     c.requires.number refl (line_fails c.args.line.now.items c.in-Err.fault c.args.number fault)
 
 pub returns-in-Err-progress_after-clause-bad : goal.returns-in-Err-progress_after-clause-bad
 returns-in-Err-progress_after-clause-bad g c =
-    let says = rw (c.in-Ok.is, c.as_slice.ensures.value) at c.read_line-said.ensures.said in
+    let says = rw c.as_slice.ensures.value at c.in-Ok.ensures.reads in
     bad_line_weaker {T = Progress} (Err c.in-Err-progress_after.stop) _ _
     (λ bad kind fails start.
     taken_failed start c.args.streams.now (g.H.Host.outside c.args.host.now) _ c.args.line.now.items
@@ -25,7 +25,7 @@ returns-in-Err-progress_after-clause-bad g c =
 
 pub returns-clause-done : goal.returns-clause-done
 returns-clause-done g c = λ start was.
-    let says = rw (c.in-Ok.is, c.as_slice.ensures.value) at c.read_line-said.ensures.said in
+    let says = rw c.as_slice.ensures.value at c.in-Ok.ensures.reads in
     line_done start c.args.streams.now c.do_event.new.streams (g.H.Host.outside c.args.host.now)
     (g.H.Host.outside c.do_event.new.host)
     _ _ c.args.line.now.items c.args.number _ _ _ says
