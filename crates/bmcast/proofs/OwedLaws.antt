@@ -14,10 +14,12 @@ use Rattle.schedule_text.proofs.Readings.{bad_line_once, no_bad_line}
 use Rattle.fill_bitmap.specs.Lengths.{refusal_of}
 use Rattle.schedule_text.specs.BadLine.{FailsAt}
 use Rattle.bmcast.specs.Chosen.{Chooses}
-use Rattle.bmcast.specs.Lengths.{CanRun, IsNotYet, IsUnsuitable, why_of}
+use Rattle.bmcast.specs.Lengths.{CanRun, IsNotYet, IsUnsuitable}
+use Rattle.bmcast.specs.Stages.{why_of}
 use Rattle.bmcast.specs.Owed.{Offers, IsOwed, AnswersWhatIsOwed}
 use Rattle.bmcast.specs.Run.{RunIsBad, RunIsDone}
-use Rattle.bmcast.specs.Status.{HasItsCause, HasItsReason, OnBadLineStatus, OnDone, status_of}
+use Rattle.bmcast.specs.Status.{HasItsCause, HasItsReason, OnBadLineStatus, OnDone}
+use Rattle.bmcast.specs.Stop.{status_of}
 use Rattle.bmcast.specs.declared.Why.{Why}
 use Rattle.bmcast.specs.declared.Why.TheVariants as because
 use Rattle.bmcast.specs.declared.stop.Stop.{Stop}

@@ -9,12 +9,12 @@ use Rattle.bmcast.specs.declared.stop.Stop.{Stop}
 use Rattle.bmcast.specs.declared.stop.Stop.TheVariants as stop
 use Rattle.bmcast.specs.declared.Status.{Status}
 use Rattle.bmcast.specs.declared.Status.TheVariants as status
-use Rattle.bmcast.specs.Stop.{OnBadLine}
+use Rattle.bmcast.specs.Stop.{OnBadLine, OnLoading, status_after, status_of}
 use Rattle.bmcast.specs.Stages.{IsLate, StopsAt, beginning, measuring, playing, writing_out}
 use Rattle.bmcast.specs.Chosen.{Chooses}
-use Rattle.bmcast.specs.Kept.{IsOpened, IsUnopened}
+use Rattle.bmcast.specs.Files.{IsOpened, IsUnopened}
 use Rattle.bmcast.specs.Lengths.{CanRun, Measured}
-use Rattle.bmcast.specs.Status.{HasCome, HasItsReason, OnLoading, status_after, status_of}
+use Rattle.bmcast.specs.Status.{HasCome, HasItsReason}
 use Rattle.bmcast.proofs.Told.{IfTold-same}
 
 -- words that choose a run stop for the lengths alone

@@ -15,10 +15,11 @@ use Rattle.plain_run.proofs.Sectors.{run_length}
 use Rattle.plain_run.proofs.Named.{only_named, run_whole}
 use Rattle.bmcast.specs.declared.streams.Streams.{Streams}
 use Rattle.bmcast.specs.Streams.{unread, Appends, KeepsSaid}
-use Rattle.bmcast.specs.Played.{HasPlayed, HasEnded, HasFailed}
-use Rattle.bmcast.specs.Run.{IsReported, IsStopped, WasRun, DoneRun, BadLineRun, RunIsBad, drive_over, drives_over, sectors_of_disk}
+use Rattle.bmcast.specs.Played.{HasPlayed, HasEnded, HasFailed, IsReported, IsStopped}
+use Rattle.bmcast.specs.Run.{WasRun, DoneRun, BadLineRun, RunIsBad, drive_over, drives_over, sectors_of_disk}
 use Rattle.schedule_text.specs.declared.LineFault.{LineFault}
-use Rattle.bmcast.specs.Kept.{IsLeft, IsOpened, KeepsAllFiles, KeepsFiles, KeepsFilesBut, LeavesFiles}
+use Rattle.bmcast.specs.Files.{IsLeft, IsOpened, LeavesFiles}
+use Rattle.bmcast.specs.Kept.{KeepsAllFiles, KeepsFiles, KeepsFilesBut}
 use Rattle.bmcast.specs.declared.Status.TheVariants as status
 use Rattle.bmcast.proofs.Told.{IfTold-weaker, IfTold-all, IfTold-same}
 use Rattle.bmcast.proofs.WaitingLaws.{Waits-none, Waits-all}

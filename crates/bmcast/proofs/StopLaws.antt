@@ -8,9 +8,10 @@ use Rattle.bm_host.specs.declared.Role.TheVariants.{Console}
 use Rattle.bm_host.proofs.OutsideLaws.{same_counts_trans, only_rose_after, same_role}
 use Rattle.bmcast.specs.declared.stop.Stop.{Stop}
 use Rattle.bmcast.specs.declared.stop.Stop.TheVariants as stop
-use Rattle.bmcast.specs.Stop.{Stopped, OnBadLine, UnlessFault}
-use Rattle.bmcast.specs.Status.{OnlyConsole, HasItsCause, ConsoleSays, OnBadLineStatus, UnlessDone, status_of}
-use Rattle.bmcast.specs.Kept.{IsLeft, LeavesFiles, SameConsole}
+use Rattle.bmcast.specs.Stop.{Stopped, OnBadLine, UnlessFault, status_of}
+use Rattle.bmcast.specs.Status.{OnlyConsole, HasItsCause, ConsoleSays, OnBadLineStatus, UnlessDone}
+use Rattle.bmcast.specs.Files.{IsLeft, LeavesFiles}
+use Rattle.bmcast.specs.Kept.{SameConsole}
 use Rattle.bmcast.specs.declared.Status.{Status}
 use Rattle.bmcast.specs.declared.Status.TheVariants as status
 

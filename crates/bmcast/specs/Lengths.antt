@@ -4,17 +4,9 @@ use Rattle.bm_host.specs.declared.Role.{Role}
 use Rattle.bm_host.specs.declared.Role.TheVariants.{Image, Disk}
 use Rattle.bm_host.specs.Outside.{Outside, IfTold}
 use Rattle.fill_bitmap.specs.Lengths.{refusal_of}
-use Rattle.fill_bitmap.specs.declared.lengths.Unsuitable.{Unsuitable}
 use Rattle.fill_bitmap.specs.declared.lengths.Unsuitable.TheVariants as unsuitable
 use Rattle.bmcast.specs.declared.Why.{Why}
 use Rattle.bmcast.specs.declared.Why.TheVariants as why
-
--- a reason as a status tells it
-abbrev pub why_of : Unsuitable → Why
-why_of unsuitable.ImageLength = why.ImageLength
-why_of unsuitable.DiskLength = why.DiskLength
-why_of unsuitable.TooSmall = why.TooSmall
-why_of unsuitable.TooLarge = why.TooLarge
 
 -- a role, where it is told, has so many bytes
 abbrev pub HasLength : Role → Outside → ℕ → Type 0

@@ -1,13 +1,16 @@
-pub mod Machine
-pub mod Chosen
-pub mod Stop
-pub mod Stages
-pub mod Waiting
-pub mod Streams
-pub mod Played
-pub mod Lengths
+-- What the clauses of `bmcast` cite: start with Run, then Status.
 pub mod Run
 pub mod Status
 pub mod StatusLine
-pub mod Kept
+pub mod Chosen
+pub mod Lengths
+pub mod Files
 pub mod Owed
+-- Inner: what its steps owe one another, which no clause of it cites.
+pub mod Stages
+pub mod Stop
+pub mod Kept
+pub mod Machine
+pub mod Waiting
+pub mod Streams
+pub mod Played

@@ -1,4 +1,4 @@
--- What a drive and the guest's memory mean together.
+-- Inner: what a drive and the guest's memory mean together.
 use Rattle.std.specs.Prelude.{ℕ, List}
 use Rattle.ata_taskfile.specs.Device.{Device}
 use Rattle.drive_store.specs.declared.memory_store.MemoryStore.{MemoryStore}

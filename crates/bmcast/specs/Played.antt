@@ -1,6 +1,6 @@
--- The events that were read and done so far.
+-- Inner: the events that were read and done so far, and a schedule that was played.
 use Rattle.std.specs.Prelude.{ℕ, ◌≡◌, ◌≢◌, ◌+◌, ◌⊎◌, List, length}
-use Rattle.bm_host.specs.declared.Role.TheVariants.{Schedule}
+use Rattle.bm_host.specs.declared.Role.TheVariants.{Schedule, Report}
 use Rattle.bm_host.specs.Outside.{Outside, IfTold}
 use Rattle.plain_drive.specs.Physical.{Physical}
 use Rattle.schedule_text.specs.declared.Event.{Event}
@@ -9,7 +9,7 @@ use Rattle.schedule_text.specs.declared.TheConstants.{LAST_LINE}
 use Rattle.schedule_text.specs.declared.LineFault.{LineFault}
 use Rattle.schedule_text.specs.Schedule.{HasNoEnd, HasRead, IsEnded, IsSchedule}
 use Rattle.schedule_text.specs.BadLine.{FailsAt}
-use Rattle.plain_run.specs.Entry.{Entry, events_of, history_text}
+use Rattle.plain_run.specs.Entry.{Entry, events_of, history_text, report_text}
 use Rattle.plain_run.specs.Run.{IsDriveRun}
 use Rattle.bmcast.specs.declared.play.Progress.{Progress}
 use Rattle.bmcast.specs.declared.play.Progress.TheVariants as progress
@@ -85,3 +85,18 @@ pub record HasFailed (start : Physical) (s : Streams) (o : Outside) (now : Physi
 abbrev pub Progresses : Progress → Physical → Streams → Outside → Physical → ℕ → Type 0
 Progresses progress.More start s o now number = HasPlayed start s o now (number + 1)
 Progresses progress.Ended start s o now number = HasEnded start s o now number
+
+-- the schedule was played to its end, from one state of the drive to another, and the report is its text
+pub record IsReported (old new : Outside) (start now : Physical) : Type 0 where
+  pub entries : List Entry
+  pub run : IsDriveRun start entries now
+  pub schedule : IfTold (old.told Schedule) (λ text. IsSchedule text (events_of entries))
+  pub report : IfTold (new.told Report) (λ text. text ≡ report_text entries)
+
+-- the schedule was played up to its first bad line, and the report is the text of the events before it
+pub record IsStopped (old new : Outside) (start now : Physical) (number : ℕ)
+    (kind : LineFault) : Type 0 where
+  pub entries : List Entry
+  pub run : IsDriveRun start entries now
+  pub schedule : IfTold (old.told Schedule) (λ text. FailsAt text (events_of entries) number kind)
+  pub report : IfTold (new.told Report) (λ text. text ≡ history_text entries)

@@ -9,24 +9,9 @@ use Rattle.schedule_text.specs.Schedule.{IsSchedule}
 use Rattle.schedule_text.specs.declared.LineFault.{LineFault}
 use Rattle.schedule_text.specs.BadLine.{FailsAt}
 use Rattle.plain_run.specs.Entry.{Entry, events_of, history_text, report_text}
-use Rattle.plain_run.specs.Run.{Drives, IsDriveRun, IsDirectRun, drives}
+use Rattle.plain_run.specs.Run.{Drives, IsDirectRun, drives}
 use Rattle.plain_run.specs.Written.{is_named}
 use Rattle.bmcast.specs.Chosen.{Chosen}
-
--- the schedule was played to its end, from one state of the drive to another, and the report is its text
-pub record IsReported (old new : Outside) (start now : Physical) : Type 0 where
-  pub entries : List Entry
-  pub run : IsDriveRun start entries now
-  pub schedule : IfTold (old.told Schedule) (λ text. IsSchedule text (events_of entries))
-  pub report : IfTold (new.told Report) (λ text. text ≡ report_text entries)
-
--- the schedule was played up to its first bad line, and the report is the text of the events before it
-pub record IsStopped (old new : Outside) (start now : Physical) (number : ℕ)
-    (kind : LineFault) : Type 0 where
-  pub entries : List Entry
-  pub run : IsDriveRun start entries now
-  pub schedule : IfTold (old.told Schedule) (λ text. FailsAt text (events_of entries) number kind)
-  pub report : IfTold (new.told Report) (λ text. text ≡ history_text entries)
 
 -- the sectors of a disk's bytes
 abbrev pub sectors_of_disk : List ℕ → List (List ℕ)

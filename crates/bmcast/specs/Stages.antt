@@ -1,10 +1,21 @@
--- The stages of a run, and how it stops at each.
+-- Inner: the stages of a run, and how it stops at each.
 use Rattle.std.specs.Prelude.{ℕ, ◌⊎◌}
 use Rattle.bm_host.specs.declared.Role.TheVariants.{Image, Disk, Schedule, Report, Out}
 use Rattle.bm_host.specs.Outside.{Outside}
+use Rattle.fill_bitmap.specs.declared.lengths.Unsuitable.{Unsuitable}
+use Rattle.fill_bitmap.specs.declared.lengths.Unsuitable.TheVariants as unsuitable
+use Rattle.bmcast.specs.declared.Why.{Why}
+use Rattle.bmcast.specs.declared.Why.TheVariants as why
 use Rattle.bmcast.specs.Lengths.{Measured, IsNotYet, IsUnsuitable}
 use Rattle.bmcast.specs.declared.stop.Stop.{Stop}
 use Rattle.bmcast.specs.declared.stop.Stop.TheVariants as stop
+
+-- a reason as a status tells it
+abbrev pub why_of : Unsuitable → Why
+why_of unsuitable.ImageLength = why.ImageLength
+why_of unsuitable.DiskLength = why.DiskLength
+why_of unsuitable.TooSmall = why.TooSmall
+why_of unsuitable.TooLarge = why.TooLarge
 
 -- the stages, in their order: the words are read; image and disk are measured, for this block; the
 -- other files are begun; the disk is read; the schedule is played; out is written. A line is moved

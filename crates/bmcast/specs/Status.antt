@@ -1,17 +1,15 @@
 -- What each status of a run owes.
-use Rattle.std.specs.Prelude.{ℕ, ◌≡◌, ◌≢◌, ◌≤◌, ◌++◌, ◌⊎◌, List, Result, Ok, Err}
+use Rattle.std.specs.Prelude.{ℕ, ◌≡◌, ◌≢◌, ◌≤◌, ◌++◌, ◌⊎◌, List}
 use Rattle.run_words.specs.Options.{Choice, Says}
 use Rattle.schedule_text.specs.declared.LineFault.{LineFault}
 use Rattle.bmcast.specs.Chosen.{ChooseARun, Chooses}
-use Rattle.bmcast.specs.Kept.{IsOpened, IsUnopened}
+use Rattle.bmcast.specs.Files.{IsOpened, IsUnopened}
 use Rattle.bmcast.specs.Lengths.{CanRun, IsNotYet, IsUnsuitable}
 use Rattle.bm_host.specs.declared.Role.{Role}
 use Rattle.bm_host.specs.declared.Role.TheVariants.{Image, Disk, Schedule, Report, Out, Console}
 use Rattle.bm_host.specs.Outside.{Outside, Rose, SameCounts, Becomes, AppendsPrefix}
 use Rattle.bmcast.specs.declared.Status.{Status}
 use Rattle.bmcast.specs.declared.Status.TheVariants as status
-use Rattle.bmcast.specs.declared.stop.Stop.{Stop}
-use Rattle.bmcast.specs.declared.stop.Stop.TheVariants as stop
 
 -- no count of faults changed but that of Console's writes, which didn't fall
 pub record OnlyConsole (old new : Outside) : Type 0 where
@@ -55,22 +53,6 @@ abbrev pub OnDone : Status → Type 0 → Type 0
 OnDone status.Done P = P
 OnDone other P = Unit {0}
 
--- a fact for what stops a run while the disk is read
-abbrev pub OnLoading : Status → Type 0 → Type 0
-OnLoading (status.ReadFault Disk) P = P
-OnLoading status.NoMemory P = P
-OnLoading other P = Unit {0}
-
--- the status of a run that stopped
-abbrev pub status_of : Stop → Status
-status_of stop.Usage = status.Usage
-status_of (stop.Unsuitable why) = status.Unsuitable why
-status_of (stop.BadLine number fault) = status.BadLine number fault
-status_of (stop.ReadFault role) = status.ReadFault role
-status_of (stop.WriteFault role) = status.WriteFault role
-status_of stop.NoMemory = status.NoMemory
-status_of stop.NotYet = status.NotYet
-
 -- the number that a program ends with (own)
 abbrev pub exit_code : Status → ℕ
 exit_code status.Done = 0
@@ -81,11 +63,6 @@ exit_code (status.ReadFault role) = 4
 exit_code (status.WriteFault role) = 5
 exit_code status.NoMemory = 6
 exit_code status.NotYet = 7
-
--- the status after a run
-abbrev pub status_after : {T : Type 0} → Result T Stop → Status
-status_after (Ok x) = status.Done
-status_after (Err why) = status_of why
 
 -- why a status comes, of the words and of the lengths, in the order in which these are looked at; no
 -- other role than these has a fault that ends a run

@@ -1,7 +1,10 @@
--- What a run that stopped early owes of its outside.
+-- Inner: what a step of a run that stopped early owes of its outside, and the status of it.
 use Rattle.std.specs.Prelude.{ℕ, Result, Ok, Err}
 use Rattle.bm_host.specs.Outside.{Outside, SameCounts, OnlyRose, Reads, Writes}
 use Rattle.schedule_text.specs.declared.LineFault.{LineFault}
+use Rattle.bm_host.specs.declared.Role.TheVariants.{Disk}
+use Rattle.bmcast.specs.declared.Status.{Status}
+use Rattle.bmcast.specs.declared.Status.TheVariants as status
 use Rattle.bmcast.specs.declared.stop.Stop.{Stop}
 use Rattle.bmcast.specs.declared.stop.Stop.TheVariants as stop
 
@@ -26,3 +29,24 @@ abbrev pub UnlessFault : {T : Type 0} → Result T Stop → Type 0 → Type 0
 UnlessFault (Ok x) P = P
 UnlessFault (Err (stop.BadLine number fault)) P = P
 UnlessFault other P = Unit {0}
+
+-- the status of a run that stopped
+abbrev pub status_of : Stop → Status
+status_of stop.Usage = status.Usage
+status_of (stop.Unsuitable why) = status.Unsuitable why
+status_of (stop.BadLine number fault) = status.BadLine number fault
+status_of (stop.ReadFault role) = status.ReadFault role
+status_of (stop.WriteFault role) = status.WriteFault role
+status_of stop.NoMemory = status.NoMemory
+status_of stop.NotYet = status.NotYet
+
+-- the status after a run
+abbrev pub status_after : {T : Type 0} → Result T Stop → Status
+status_after (Ok x) = status.Done
+status_after (Err why) = status_of why
+
+-- a fact for what stops a run while the disk is read
+abbrev pub OnLoading : Status → Type 0 → Type 0
+OnLoading (status.ReadFault Disk) P = P
+OnLoading status.NoMemory P = P
+OnLoading other P = Unit {0}

@@ -1,4 +1,4 @@
--- The schedule as it is read in blocks, and the report as it is written in blocks.
+-- Inner: the schedule as it is read in blocks, and the report as it is written in blocks.
 use Rattle.std.specs.Prelude.{ℕ, ◌≡◌, ◌≢◌, ◌≤◌, ◌++◌, List, [], ◌∷◌, length, take, drop, Option, Some, None}
 use Rattle.bm_host.specs.declared.Role.TheVariants.{Schedule, Report}
 use Rattle.bm_host.specs.Outside.{Outside}

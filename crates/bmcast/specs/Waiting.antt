@@ -1,4 +1,4 @@
--- Bytes that wait to be written to a role.
+-- Inner: bytes that wait to be written to a role.
 use Rattle.std.specs.Prelude.{ℕ, ◌≡◌, ◌++◌, List}
 use Rattle.bm_host.specs.declared.Role.{Role}
 use Rattle.bm_host.specs.Outside.{Outside, IfTold}

@@ -4,9 +4,11 @@ ghost use Rattle.std.specs.Prelude.{◌≡◌, ◌%◌, ◌/◌, ◌<◌, ℕ, L
 ghost use Rattle.bm_host.specs.Outside.{Outside, Counted, Reads, begin_side, begun};
 ghost use Rattle.fill_bitmap.specs.Area.{IsBlock};
 ghost use Rattle.bm_host.specs.declared.Role.TheVariants.{Image, Disk};
-ghost use Rattle.bmcast.specs.Lengths.{CanRun, HasLength, Measured, why_of};
-ghost use Rattle.bmcast.specs.Kept.{IsUnopened, KeepsAllFiles, KeepsFilesBut, KeepsLooked, LeavesFiles, SameConsole};
-ghost use Rattle.bmcast.specs.Status.{status_after};
+ghost use Rattle.bmcast.specs.Lengths.{CanRun, HasLength, Measured};
+ghost use Rattle.bmcast.specs.Stages.{why_of};
+ghost use Rattle.bmcast.specs.Files.{IsUnopened, LeavesFiles};
+ghost use Rattle.bmcast.specs.Kept.{KeepsAllFiles, KeepsFilesBut, KeepsLooked, SameConsole};
+ghost use Rattle.bmcast.specs.Stop.{status_after};
 ghost use Rattle.bmcast.specs.Stop.{IsCounted};
 ghost use Rattle.bmcast.specs.Stages.{StopsAt, measuring};
 

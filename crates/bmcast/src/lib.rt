@@ -1,9 +1,11 @@
 //! The program `bmcast`: a run over an image, a disk and a schedule of events, by its words.
 //!
 //! Start with `bmcast`, the call that the program makes, and `run`, its steps in order. `specs/Run.antt` says what
-//! is promised of a run that is done or ends at a bad line, `specs/Status.antt` what each status owes, and
-//! `specs/Streams.antt` and `specs/Played.antt` what the reading of a schedule and the writing of a report keep.
-//! `docs/proofs.md` says the same in words.
+//! is promised of a run that is done or ends at a bad line, and `specs/Status.antt` what each status owes;
+//! `specs/Lib.antt` names these and the others that the clauses of `bmcast` cite, and then the inner ones. Of those
+//! `specs/Stages.antt` has the stages of a run with the stops of each, and `specs/Streams.antt` and
+//! `specs/Played.antt` what the reading of a schedule and the writing of a report keep. `docs/proofs.md` says the same
+//! in words.
 //!
 //! The tests are those of the crate `worked_runs`.
 
@@ -21,12 +23,14 @@ mod streams;
 mod waiting;
 
 ghost use Rattle.bmcast.specs.Run.{RunIsBad, RunIsDone};
-ghost use Rattle.bmcast.specs.Kept.{KeepsLooked, LeavesFiles};
+ghost use Rattle.bmcast.specs.Kept.{KeepsLooked};
+ghost use Rattle.bmcast.specs.Files.{LeavesFiles};
 ghost use Rattle.bmcast.specs.Owed.{AnswersWhatIsOwed};
 ghost use Rattle.std.specs.Prelude.{◌≡◌};
 ghost use Rattle.run_words.specs.Pairs.{texts};
 ghost use Rattle.bmcast.specs.Status.{HasCome, HasItsReason, OnBadLineStatus, UnlessDone};
-ghost use Rattle.bmcast.specs.Status.{HasItsCause, OnDone, OnlyConsole, ConsoleSays, exit_code, status_of};
+ghost use Rattle.bmcast.specs.Status.{HasItsCause, OnDone, OnlyConsole, ConsoleSays, exit_code};
+ghost use Rattle.bmcast.specs.Stop.{status_of};
 ghost use Rattle.bm_host.specs.declared.Role.TheVariants.{Console};
 ghost use Rattle.bmcast.specs.StatusLine.{status_line};
 ghost use Rattle.bm_host.specs.Outside.{SameElsewhere};
@@ -101,7 +105,7 @@ pub fn bmcast<H: Host>(alloc: Global, words: &[String], host: &mut H) -> Status
     // before the first event.
     ensures came { HasCome result (texts words.now) (H.outside host.old) (H.outside host.new) }
     ensures files { LeavesFiles result (H.outside host.old) (H.outside host.new) }
-    ensures looked { KeepsLooked (H.outside host.old) (H.outside host.new) }
+    ensures looked { (H.outside host.new).looked ≡ (H.outside host.old).looked }
 
     ensures told { UnlessDone result
         (ConsoleSays (status_line result) (H.outside host.old) (H.outside host.new)) }

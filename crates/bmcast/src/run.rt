@@ -5,13 +5,16 @@ ghost use Rattle.bm_host.specs.declared.Role.TheVariants.{Disk, Out};
 ghost use Rattle.plain_drive.specs.Physical.{Physical};
 ghost use Rattle.bmcast.specs.Machine.{physical};
 ghost use Rattle.run_words.specs.Pairs.{texts};
-ghost use Rattle.bmcast.specs.Kept.{IsOpened, KeepsFiles, KeepsLooked, LeavesFiles, SameConsole};
+ghost use Rattle.bmcast.specs.Files.{IsOpened, LeavesFiles};
+ghost use Rattle.bmcast.specs.Kept.{KeepsFiles, KeepsLooked, SameConsole};
 ghost use Rattle.bmcast.specs.Lengths.{HasLength};
 ghost use Rattle.bmcast.specs.Stop.{IsCounted, OnBadLine};
 ghost use Rattle.bmcast.specs.Stages.{IsLate, StopsAt, beginning, playing};
-ghost use Rattle.bmcast.specs.Status.{HasCome, HasItsReason, OnLoading, status_after};
+ghost use Rattle.bmcast.specs.Status.{HasCome, HasItsReason};
+ghost use Rattle.bmcast.specs.Stop.{OnLoading, status_after};
 ghost use Rattle.bmcast.specs.Played.{HasPlayed, HasEnded, HasFailed};
-ghost use Rattle.bmcast.specs.Run.{IsReported, IsStopped, DoneRun, BadLineRun, RunIsBad, RunIsDone};
+ghost use Rattle.bmcast.specs.Played.{IsReported, IsStopped};
+ghost use Rattle.bmcast.specs.Run.{DoneRun, BadLineRun, RunIsBad, RunIsDone};
 
 use crate::disk::{load, write_out};
 use crate::lengths::measure;
@@ -71,7 +74,6 @@ fn run_events<H: Host>(
     ensures opened { OnLoading (status_after result) (IsOpened (H.outside host.new)) }
     ensures console { SameConsole (H.outside host.old) (H.outside host.new) }
 {
-    // A `?` would tell of its answer only that it is an error, and not which stop.
     match begin_files(host, options) {
         Ok(()) => {}
         Err(stop) => return Err(stop),

@@ -1,13 +1,17 @@
 //! Why a run stops before its end.
+//!
+//! Where a clause says which stop a step's answer has, the answer is matched and its stop returned: of what `?` returns
+//! it is known only that it is an error.
 
 ghost use Rattle.std.specs.Prelude.{◌≡◌};
-ghost use Rattle.bmcast.specs.Status.{status_of};
+ghost use Rattle.bmcast.specs.Stop.{status_of};
 
 use crate::{Status, Why};
 use bm_host::Role;
 use schedule_text::LineFault;
 
-/// A run's end other than Done.
+/// A run's end other than Done. It is an enum beside `Status`, which has Done too, so that by its type no step that
+/// fails can answer that the run is done.
 #[derive(Clone, Copy, Debug, PartialEq, Eq)]
 pub(crate) enum Stop {
     Usage,

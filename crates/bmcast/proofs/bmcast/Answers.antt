@@ -2,7 +2,7 @@ use Rattle.bmcast.proofs.StopLaws.{caused, left_and_told, told_since, unless_don
 use Rattle.bmcast.proofs.RunLaws.{bad_line_told}
 use Rattle.bmcast.proofs.OwedLaws.{owed_answer, owed_stop}
 use Rattle.bmcast.proofs.Reasons.{come_and_told}
-use Rattle.bmcast.specs.Status.{status_of}
+use Rattle.bmcast.specs.Stop.{status_of}
 use Rattle.bmcast.specs.StatusLine.{status_line}
 use Rattle.run_words.specs.Pairs.{texts}
 use Rattle.bmcast.specs.declared.Status.TheVariants.{Done}
