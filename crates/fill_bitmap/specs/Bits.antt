@@ -9,7 +9,7 @@ use Rattle.fill_bitmap.specs.declared.lengths.TheConstants.{SECTOR_BYTES}
 abbrev pub sector_with_bit : ℕ → ℕ
 sector_with_bit b = b / BLOCKS_OF_SECTOR
 
--- whether a sector has the bit of block `b` set: bit b mod 8 of byte b / 8, counted over all sectors of the bitmap (own)
+-- whether a sector has the bit of block `b` set: bit b mod 8 of byte b / 8, counted over the whole bitmap (own)
 abbrev pub has_bit : List ℕ → ℕ → Bool
 has_bit sector b = bit_at (slice_index sector (b % BLOCKS_OF_SECTOR / 8)) (b % 8) == 1
 

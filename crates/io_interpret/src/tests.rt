@@ -151,7 +151,7 @@ fn first_other_class(rows: &[RangeRow], area: &Area, bitmap: &Bitmap) -> Option<
     None
 }
 
-// The first wrong row of an image of three blocks, of which the middle one is empty; None where sizes give no such area.
+// The first wrong row of an image of three blocks, the middle one empty; None where sizes give no such area.
 fn wrong_classes(sizes: Sizes, rows: &[RangeRow], bitmap: &Bitmap) -> Option<Option<RangeRow>>
     requires three { blocks_in bitmap.now ≡ 3 }
 {
@@ -276,7 +276,7 @@ fn first_other_piece(rows: &[PieceRow], area: &Area, bitmap: &Bitmap) -> Option<
     None
 }
 
-// The first wrong row of an image of three blocks, of which the middle one is empty; None where sizes give no such area.
+// The first wrong row of an image of three blocks, the middle one empty; None where sizes give no such area.
 fn wrong_pieces(
     sizes: Sizes,
     rows: &[PieceRow],

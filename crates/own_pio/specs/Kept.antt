@@ -59,7 +59,8 @@ holds_block (Ready order position left) job done = false
 abbrev pub read_over : ℕ → ℕ → List Cell → List ℕ → List ℕ
 read_over first zero cells bytes = bytes
 read_over first (suc n) cells bytes =
-    put_over (SECTOR_BYTES * n) (bytes_of (words_of (sector_value (first + n) (powered_on cells 0))))
+    put_over (SECTOR_BYTES * n)
+    (bytes_of (words_of (sector_value (first + n) (powered_on cells 0))))
     (read_over first n cells bytes)
 
 -- the bytes of a job of which so many blocks went, by those at its begin
@@ -102,4 +103,5 @@ Leaves Waiting job left bytes start origin d =
 Leaves Moved job left bytes start origin d =
     IsDoneSoFar job (done_by job (left - 1)) bytes start origin d
 Leaves Done job left bytes start origin d = IsJobDone job bytes start origin d
-Leaves Failed job left bytes start origin d = IsJobFailed job (done_by job left) bytes start origin d
+Leaves Failed job left bytes start origin d =
+    IsJobFailed job (done_by job left) bytes start origin d

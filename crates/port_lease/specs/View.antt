@@ -96,7 +96,10 @@ is_command access.Line = false
 -- what is kept after a write of Device Control: a reset leaves 00h in Features
 abbrev pub control_kept : ℕ → TaskFile → TaskFile
 control_kept v f =
-    record f { control = bit_and v CONTROL_BITS; features = if has_bit SRST v then 0 else f.features }
+    record f {
+      control = bit_and v CONTROL_BITS;
+      features = if has_bit SRST v then 0 else f.features;
+    }
 
 -- what is kept of the registers after a write to one, by the drive's phase: where the drive ignores it
 -- nothing changes

@@ -29,7 +29,8 @@ pub fn put_control<P: Ports>(ports: &mut P, v: u8)
     requires unpended { (P.device ports.old).file.pending ≡ false }
     requires no_reset { has_bit SRST v ≡ false }
     ensures put { let d = P.device ports.old in
-        P.device ports.new ≡ record d { file = record d.file { control = bit_and v CONTROL_BITS } } }
+        P.device ports.new
+        ≡ record d { file = record d.file { control = bit_and v CONTROL_BITS } } }
     ensures rest { P.rest ports.new ≡ P.rest ports.old }
 {
     ports.write8(Reg::Alternate, v);
