@@ -14,7 +14,7 @@ use Rattle.ata_taskfile.specs.declared.Step.{Step}
 use Rattle.ata_taskfile.specs.declared.Step.TheVariants as step
 use Rattle.ata_taskfile.specs.declared.task_file.TaskFile.{TaskFile}
 use Rattle.ata_taskfile.specs.declared.bus_master.Bus.{Bus}
-use Rattle.ata_taskfile.specs.Data.{moves_by_bus}
+use Rattle.ata_taskfile.specs.Data.{moves_by_bus, takes_words}
 use Rattle.ata_taskfile.specs.Lawful.{IsLawfulState}
 use Rattle.bm_dma.specs.declared.moves.Moved.{Moved}
 use Rattle.bm_dma.specs.Move.{outcome, bus_next}
@@ -24,7 +24,7 @@ use Rattle.ata_taskfile.specs.Device.{Cell, Device, powered_on}
 use Rattle.plain_drive.specs.Plain.{Plain, with_cells, with_registers}
 use Rattle.plain_drive.specs.Change.{Change, leaves, change_in, change_proceeded}
 use Rattle.plain_drive.specs.Physical.{Kept, Physical, cells_of, kept_after, keeping, seen, physical_step}
-use Rattle.plain_drive.specs.Step.{ended, offered, loaded, words_due, first_wanted, next_wanted, received, good_step_in, bad_step_in, proceeded, position_after}
+use Rattle.plain_drive.specs.Step.{ended, transferred, offered, loaded, words_due, first_wanted, next_wanted, received, good_step_in, bad_step_in, proceeded, position_after}
 use Rattle.drive_model.specs.CachedStore.{IfBothTold}
 use Rattle.drive_model.specs.Drive.{worked}
 use Rattle.drive_model.proofs.Told.{becomes_told, becomes_same, becomes_so}
@@ -138,6 +138,11 @@ first_becomes order done p new before after start stays wanted =
         (record p { memory = memory })
     first memory = rw start refl
 
+-- a command whose sectors the bus master doesn't move ends without a walk of its own
+pub ended_still : (order : Request) (p : Physical) → moves_by_bus order.form ≡ false
+    → worked leaves (transferred order) p ≡ worked leaves ended p
+ended_still order p still = rw still refl
+
 -- a refused command ends in steps of both kinds
 pub refused_ends : (s : Step) (reason : Refused) (done : ℕ) (p : Physical) → p.file.phase ≡ Busy (Bad reason) done
     → worked leaves (with_registers (refused reason p.file)) p ≡ physical_step s p
@@ -159,6 +164,9 @@ pub next_more : (order : Request) (done : ℕ) (p : Physical) → done < order.c
     → worked leaves (offered order done []) p ≡ worked leaves (next_wanted order done) p
 next_more order done p more = grind arith
 
-pub next_over : (order : Request) (done : ℕ) (p : Physical) → order.count ≤ done
-    → worked leaves ended p ≡ worked leaves (next_wanted order done) p
-next_over order done p over = grind arith
+pub next_over : (order : Request) (done : ℕ) (p : Physical) → order.count ≤ done → takes_words order.form ≡ true
+    → worked leaves (transferred order) p ≡ worked leaves (next_wanted order done) p
+next_over order done p over takes =
+    let still : moves_by_bus order.form ≡ false = grind arith in
+    let past : worked leaves ended p ≡ worked leaves (next_wanted order done) p = grind arith in
+    ended_still order p still ∙ past

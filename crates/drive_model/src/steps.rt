@@ -10,7 +10,7 @@ ghost use Rattle.ata_taskfile.specs.Data.{moves_by_bus};
 ghost use Rattle.drive_store.specs.Store.{Counted};
 ghost use Rattle.plain_drive.specs.Change.{leaves, change_without_data, change_proceeded};
 ghost use Rattle.plain_drive.specs.Physical.{seen, kept_after, physical_step};
-ghost use Rattle.plain_drive.specs.Step.{good_step_in, acts, acts_in, stepped_if, proceeded, proceeds, ended};
+ghost use Rattle.plain_drive.specs.Step.{good_step_in, acts, acts_in, stepped_if, proceeded, proceeds, ended, transferred};
 ghost use Rattle.drive_model.specs.CachedStore.{CallsStore, IfStoreTold, kept_of};
 ghost use Rattle.drive_model.specs.Drive.{IfTold, count_of, faults_of, physical_of, rest_of, worked};
 
@@ -163,15 +163,17 @@ impl<S: Store> Drive<S> {
         Ok(Stepped::Changed)
     }
 
-    // Ends the command well.
-    #[tactic(auto, using(plain_drive::proofs::Ends::ended_lawful))]
+    // Ends the command well, with its walk where the bus master moves its sectors.
+    #[tactic(auto, using(plain_drive::proofs::Ends::ended_lawful, plain_drive::proofs::Ends::walk_ended_lawful, plain_drive::proofs::Ends::transferred_lawful))]
     pub(crate) fn end(&mut self, order: Request, done: u32)
-        requires phase { self.old.file.phase ≡ Phase.Busy (Taken.Good order) done }
-        requires still { moves_by_bus order.form ≡ false }
+        requires { self.old.file.phase ≡ Phase.Busy (Taken.Good order) done }
         ensures after { (memory : List ℕ) → physical_of self.new memory
-            ≡ worked leaves ended (physical_of self.old memory) }
+            ≡ worked leaves (transferred order) (physical_of self.old memory) }
         ensures sectors { self.new.sectors ≡ self.old.sectors }
     {
+        if order.form.moves_by_bus() {
+            self.bus.end_walk();
+        }
         let mut file = self.file;
         file.interrupt_in(Phase::Idle);
         self.put_file(file);

@@ -40,7 +40,7 @@ impl<S: Store> Drive<S> {
         ensures memory_unmoved { result ≡ Ok Stepped.Nothing → memory.new ≡ memory.old }
     {
         if done >= order.count {
-            self.end_transfer(order, done);
+            self.end(order, done);
             return Ok(Stepped::Changed);
         }
         if self.bus.walk.is_none() {
@@ -51,21 +51,6 @@ impl<S: Store> Drive<S> {
             _ => self.take_sector(order, done, memory)?,
         }
         Ok(Stepped::Changed)
-    }
-
-    // Ends the command well, with its walk.
-    #[tactic(auto, using(plain_drive::proofs::Ends::walk_ended_lawful, plain_drive::proofs::Ends::transferred_lawful))]
-    fn end_transfer(&mut self, order: Request, done: u32)
-        requires phase { self.old.file.phase ≡ Phase.Busy (Taken.Good order) done }
-        requires moves { moves_by_bus order.form ≡ true }
-        ensures after { (memory : List ℕ) → physical_of self.new memory
-            ≡ worked leaves (transferred order) (physical_of self.old memory) }
-        ensures sectors { self.new.sectors ≡ self.old.sectors }
-    {
-        self.bus.end_walk();
-        let mut file = self.file;
-        file.interrupt_in(Phase::Idle);
-        self.put_file(file);
     }
 
     // Moves a sector of a read into memory.

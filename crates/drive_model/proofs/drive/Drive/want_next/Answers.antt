@@ -11,4 +11,4 @@ returns-then-done-order-clause-after g c = λ memory.
 pub returns-else-done-order-clause-after : goal.returns-else-done-order-clause-after
 returns-else-done-order-clause-after g c = λ memory.
     c.end.ensures.after memory ∙ next_over c.args.order c.args.done (physical_of c.args.self.now memory)
-    c.if-done-order.false
+    c.if-done-order.false c.requires.takes
