@@ -111,6 +111,7 @@ loaded_open s old new was same = on_loading s (record {
 module _ (words : List (List ℕ)) (a b c : Outside) (told : SameElsewhere Console b c) where
   unopened_told : IsUnopened a b → IsUnopened a c
   unopened_told was = record {
+    given = told.given Schedule (λ e. cc) ∙ was.given;
     report = told.told Report (λ e. cc) ∙ was.report;
     out = told.told Out (λ e. cc) ∙ was.out;
   }

@@ -31,12 +31,14 @@ IsLeft status.NoMemory role = IsRead role
 abbrev pub LeavesFiles : Status → Outside → Outside → Type 0
 LeavesFiles status old new = (role : Role) → IsLeft status role → new.told role ≡ old.told role
 
--- Report and Out hold what they held
+-- Report and Out hold what they held, and no more of Schedule was given than before
 pub record IsUnopened (old new : Outside) : Type 0 where
+  pub given : new.given Schedule ≡ old.given Schedule
   pub report : new.told Report ≡ old.told Report
   pub out : new.told Out ≡ old.told Out
 
--- no event is read yet: nothing of the schedule is taken, and report and out are empty
+-- the files are open, and no more: the next read of Schedule begins at its start, and Report and Out
+-- are empty
 pub record IsOpened (o : Outside) : Type 0 where
   pub given : o.given Schedule ≡ 0
   pub report : IfTold (o.told Report) (λ bytes. bytes ≡ [])

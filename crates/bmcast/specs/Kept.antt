@@ -20,6 +20,10 @@ KeepsAllFiles old new = (role : Role) → new.told role ≡ old.told role
 abbrev pub KeepsFilesBut : Role → Outside → Outside → Type 0
 KeepsFilesBut written old new = (role : Role) → role ≢ written → new.told role ≡ old.told role
 
+-- no more was given of any role but this one than before
+abbrev pub KeepsGivenBut : Role → Outside → Outside → Type 0
+KeepsGivenBut read old new = (role : Role) → role ≢ read → new.given role ≡ old.given role
+
 -- no role but Report holds anything else
 abbrev pub KeepsFiles : Outside → Outside → Type 0
 KeepsFiles old new = KeepsFilesBut Report old new

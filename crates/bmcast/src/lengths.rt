@@ -7,7 +7,7 @@ ghost use Rattle.bm_host.specs.declared.Role.TheVariants.{Image, Disk};
 ghost use Rattle.bmcast.specs.Lengths.{CanRun, HasLength, Measured};
 ghost use Rattle.bmcast.specs.Stages.{why_of};
 ghost use Rattle.bmcast.specs.Files.{IsUnopened, LeavesFiles};
-ghost use Rattle.bmcast.specs.Kept.{KeepsAllFiles, KeepsFilesBut, KeepsLooked, SameConsole};
+ghost use Rattle.bmcast.specs.Kept.{KeepsAllFiles, KeepsFilesBut, KeepsGivenBut, KeepsLooked, SameConsole};
 ghost use Rattle.bmcast.specs.Stop.{status_after};
 ghost use Rattle.bmcast.specs.Stop.{IsCounted};
 ghost use Rattle.bmcast.specs.Stages.{StopsAt, measuring};
@@ -80,6 +80,7 @@ fn length_of<H: Host>(host: &mut H, role: Role, name: &str) -> Result<u64, Faile
     ensures counts { Counted Reads role (H.outside host.old) (H.outside host.new) result }
     ensures files { OnOk result (KeepsAllFiles (H.outside host.old) (H.outside host.new)) }
     ensures others { KeepsFilesBut role (H.outside host.old) (H.outside host.new) }
+    ensures given { KeepsGivenBut role (H.outside host.old) (H.outside host.new) }
     ensures looked { KeepsLooked (H.outside host.old) (H.outside host.new) }
     ensures length { IfOk result (HasLength role (H.outside host.old)) }
 {

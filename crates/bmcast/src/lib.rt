@@ -101,8 +101,8 @@ pub fn bmcast<H: Host>(alloc: Global, words: &[String], host: &mut H) -> Status
     ensures owed { AnswersWhatIsOwed result (texts words.now)
         (H.outside host.old) (H.outside host.new) }
 
-    // Report and Out are opened only behind words and lengths that are good, and the disk is read and memory taken
-    // before the first event.
+    // Report and Out are opened only behind words and lengths that are good. Where the disk can't be read or memory is
+    // wanting nothing was read of Schedule in turn since it was opened, and both are empty.
     ensures came { HasCome result (texts words.now) (H.outside host.old) (H.outside host.new) }
     ensures files { LeavesFiles result (H.outside host.old) (H.outside host.new) }
     ensures looked { (H.outside host.new).looked ≡ (H.outside host.old).looked }
