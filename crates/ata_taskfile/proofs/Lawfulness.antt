@@ -33,7 +33,7 @@ cleared-kept c e = and_assoc 134 c 127 ∙ sym (and_assoc 127 c 134) ∙ ap (λ 
 pub order-possible : (byte n : ℕ) (i : Inputs) → is_possible (taken (order_of byte i n)) ≡ true
 order-possible byte n i = grind arith
 
--- and its sectors are on the drive
+-- the sectors of an order of the table are on the drive
 order-within : (byte n : ℕ) (i : Inputs) → end_in (taken (order_of byte i n)) ≤ n
 order-within byte n i = grind arith
 
@@ -51,7 +51,7 @@ taken-lawful device c old failed pending phase b order idle selected possible l 
     let p = order-starts order possible in
     grind (arith, k, s, p)
 
--- it has taken no word yet
+-- a command that was just taken has taken no word
 taken-block : (order : Taken) (words : ℕ) → has_its_words (Busy order 0) words ≡ true
 taken-block order words = grind arith
 
@@ -73,7 +73,7 @@ words_written-lawful : (device error c : ℕ) (failed pending : Bool) (phase : P
     (phase_after_write phase) b
 words_written-lawful device error c failed pending phase b l = grind arith
 
--- the sectors of its order are on the drive
+-- the sectors of the order in hand stay on the drive when a word is read or written
 read_word-within : (phase : Phase) (n : ℕ) → end_of phase ≤ n → end_of (phase_after_read phase) ≤ n
 read_word-within phase n h = grind arith
 
@@ -135,7 +135,7 @@ module _ (f : TaskFile) (b : Bus) (words n : ℕ) (l : IsLawfulState f b words n
       let s = and_assoc 4 v 134 in
       grind (arith, k, s)
 
-  -- one that begins a reset
+  -- a write of Device Control that begins a reset
   begun : (v : ℕ) → IsLawfulState (record f { control = bit_and v 134; phase = Reset; pending = false })
       (bus_in_reset f.phase b) words n
   begun v =
@@ -143,7 +143,7 @@ module _ (f : TaskFile) (b : Bus) (words n : ℕ) (l : IsLawfulState f b words n
       let s = and_assoc 4 v 134 in
       grind (arith, k, s)
 
-  -- one with SRST at 1
+  -- a write of Device Control with SRST at 1
   held-written : (phase : Phase) (v : ℕ) → f.phase ≡ phase
       → IsLawfulAfter (control_wrote phase) f.phase (in_reset phase (record f { control = bit_and v 134 })) b words n
   held-written Reset v e = kept_phase v (λ srst. ap is_in_reset e)
@@ -172,7 +172,7 @@ module _ (f : TaskFile) (b : Bus) (words n : ℕ) (l : IsLawfulState f b words n
   written-lawful reg.BusCommand v = l
   written-lawful reg.BusStatus v = l
 
--- the same of a write of which it is known what it did
+-- registers and bus master after a write of which it is known what it did
 wrote-lawful : (did : Wrote) (r : Reg) (v : ℕ) (f : TaskFile) (b : Bus) (words n : ℕ) → wrote r v f ≡ did
     → IsLawfulState f b words n
     → IsLawfulAfter did f.phase (after_write r v f) b words n

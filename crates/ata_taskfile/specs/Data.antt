@@ -57,7 +57,8 @@ left_in (Ready taken done left) = left
 
 -- what a read of Data answers: the next word of the block, and FFFFh outside a transfer (own)
 abbrev pub word_in : Phase → List ℕ → ℕ
-word_in phase block = if is_given phase then slice_index block (BLOCK_WORDS - left_in phase) else 65535
+word_in phase block =
+    if is_given phase then slice_index block (BLOCK_WORDS - left_in phase) else 65535
 
 -- the phase when the last word of a block was read: the next sector is due, or the command has ended
 -- (ATA/ATAPI-6, PIO data-in)

@@ -2,9 +2,10 @@
 //! `Ports`, by which every other crate reaches a device.
 //!
 //! Start with the enums below, then `registers` for the bits and the command bytes, `task_file` and `bus_master` for
-//! the calls, `order` and `transfer` for what a command asks for and how its data moves, and `ports` for the trait. `specs/TaskFile.antt`, `Bus.antt` and `Data.antt` say what each
-//! call does to the registers and the phase, `specs/Device.antt` and `Access.antt` what an access does to the whole
-//! device, `specs/Order.antt` which order a command byte gives, and `specs/Lawful.antt` what every device keeps.
+//! the calls, `order` and `transfer` for what a command asks for and how its data moves, and `ports` for the trait.
+//! `specs/TaskFile.antt`, `Bus.antt` and `Data.antt` say what each call does to the registers and the phase,
+//! `specs/Device.antt` and `Access.antt` what an access does to the whole device, `specs/Order.antt` which order a
+//! command byte gives, and `specs/Lawful.antt` what every device keeps.
 //! `docs/drive.md` has the same rules as tables.
 //!
 //! The tests are in `src/tests.rt`.

@@ -31,4 +31,5 @@ places_of d = range_with_len d.base d.count
 
 -- the places of a sector that were found, and those that a descriptor has for it behind its first `skipped`
 abbrev pub with_piece : Descriptor → ℕ → List ℕ → List ℕ
-with_piece d skipped found = found ++ take (SECTOR_BYTES - length found) (drop skipped (places_of d))
+with_piece d skipped found =
+    found ++ take (SECTOR_BYTES - length found) (drop skipped (places_of d))

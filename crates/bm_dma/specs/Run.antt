@@ -29,7 +29,8 @@ run_with d size rest = if is_good d size
 abbrev pub run_from : ℕ → ℕ → List ℕ → Run
 run_from zero at memory = bad_run
 run_from (suc n) at memory =
-    run_with (descriptor_in (drop at memory)) (length memory) (run_from n (at + DESCRIPTOR_BYTES) memory)
+    run_with (descriptor_in (drop at memory)) (length memory)
+    (run_from n (at + DESCRIPTOR_BYTES) memory)
 
 -- the descriptor run of the table at the pointer, up to the end mark or the first bad descriptor (Bus Master IDE 1.0,
 -- descriptor table); it is finite, since it has no more descriptors than memory has room for

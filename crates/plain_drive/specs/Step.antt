@@ -33,7 +33,8 @@ ended p = with_registers (interrupted_in Idle p.device.file) p
 -- a block waits in Data, or is wanted there, and an interrupt pends
 abbrev pub offered : Request → ℕ → List ℕ → Plain → Plain
 offered order done block p =
-    with_registers (interrupted_in (Ready (Good order) done BLOCK_WORDS) p.device.file) (with_block block p)
+    with_registers (interrupted_in (Ready (Good order) done BLOCK_WORDS) p.device.file)
+    (with_block block p)
 
 -- the words that a command gives: IDENTIFY DEVICE its own, any other those of the sector that is
 -- due (ATA/ATAPI-6, PIO data-in)
@@ -52,7 +53,8 @@ loaded order done p = offered order done (words_due order.kind (order.first + do
 -- the first block of a write is wanted in Data, without an interrupt (ATA/ATAPI-6, PIO data-out)
 abbrev pub first_wanted : Request → Plain → Plain
 first_wanted order p =
-    with_registers (record p.device.file { phase = Ready (Good order) 0 BLOCK_WORDS }) (with_block [] p)
+    with_registers (record p.device.file { phase = Ready (Good order) 0 BLOCK_WORDS })
+    (with_block [] p)
 
 -- after a block was written: the next one is wanted, or the command has ended, and an interrupt
 -- pends (ATA/ATAPI-6, PIO data-out)
