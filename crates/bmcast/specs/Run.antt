@@ -1,6 +1,7 @@
 -- A whole run, and what is promised of it.
 use Rattle.std.specs.Prelude.{ℕ, ◌≡◌, ◌*◌, ◌/◌, false, List, [], length, replicate, slice_index_or}
 use Rattle.bm_host.specs.declared.Role.TheVariants.{Disk, Schedule, Report, Out}
+use Rattle.ata_taskfile.specs.declared.registers.TheConstants.{SECTOR_BYTES}
 use Rattle.bm_host.specs.Outside.{Outside, IfTold}
 use Rattle.plain_drive.specs.Plain.{sectors_in}
 use Rattle.plain_drive.specs.Cut.{IsOutcome, drive_at_power_on}
@@ -15,7 +16,7 @@ use Rattle.bmcast.specs.Chosen.{Chosen}
 
 -- the sectors of a disk's bytes
 abbrev pub sectors_of_disk : List ℕ → List (List ℕ)
-sectors_of_disk disk = sectors_in (length disk / 512) disk
+sectors_of_disk disk = sectors_in (length disk / SECTOR_BYTES) disk
 
 -- a drive at power-on over these sectors, all durable, with a guest's memory of so many zeros
 abbrev pub drive_over : ℕ → List (List ℕ) → Physical
@@ -51,7 +52,7 @@ pub record DoneRun (memory : ℕ) (old new : Outside) : Type 0 where
   pub report : IfTold (new.told Report) (λ text. text ≡ report_text was.entries)
   -- out has the physical drive's durable sectors, which are what a power cut may leave of the plain one
   pub out : IfTold (new.told Out) (λ out. sectors_of_disk out ≡ was.end.physical.kept.durable)
-  pub whole : IfTold (new.told Out) (λ out. length out ≡ 512 * length was.sectors)
+  pub whole : IfTold (new.told Out) (λ out. length out ≡ SECTOR_BYTES * length was.sectors)
   pub outcome : IsOutcome was.end.plain.device.cells was.end.physical.kept.durable
   -- a sector that no `c` line of a write names is the disk's
   pub unnamed : (s : ℕ) → is_named s was.entries ≡ false

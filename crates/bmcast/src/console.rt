@@ -71,7 +71,7 @@ fn push_bad_line(line: &mut ArrayVec<u8, MOST>, number: u32, fault: LineFault)
 }
 
 fn push_two(line: &mut ArrayVec<u8, MOST>, first: &[u8], second: &[u8])
-    requires { length line.old.items + length first.now + length second.now ≤ 128 }
+    requires { length line.old.items + length first.now + length second.now ≤ MOST }
     ensures text { line.new.items ≡ line.old.items ++ first.now ++ second.now }
 {
     push(line, first);
@@ -79,7 +79,7 @@ fn push_two(line: &mut ArrayVec<u8, MOST>, first: &[u8], second: &[u8])
 }
 
 fn push(line: &mut ArrayVec<u8, MOST>, text: &[u8])
-    requires { length line.old.items + length text.now ≤ 128 }
+    requires { length line.old.items + length text.now ≤ MOST }
     ensures { line.new.items ≡ line.old.items ++ text.now }
 {
     line.try_extend_from_slice(text).unwrap();

@@ -17,6 +17,7 @@ use crate::machine::Machine;
 use crate::stop::Stop;
 use crate::waiting::{make_room, write_waiting};
 use arrayvec::ArrayVec;
+use ata_taskfile::registers::SECTOR_BYTES;
 use bm_dma::{GuestMemory, MOST_BYTES};
 use bm_host::{Host, Role};
 use drive_model::Drive;
@@ -33,7 +34,7 @@ pub(crate) fn load<H: Host>(
     size: u64,
     memory: u32,
 ) -> Result<Machine, Stop>
-    requires whole { size % 512 ≡ 0 }
+    requires whole { size % SECTOR_BYTES ≡ 0 }
     requires memory { memory ≤ MOST_BYTES }
     requires told { HasLength Disk (H.outside host.old) size }
     ensures stops { IfErr result (StopsAt loading) }
@@ -42,13 +43,13 @@ pub(crate) fn load<H: Host>(
     ensures bytes { SameBytes (H.outside host.old) (H.outside host.new) }
     ensures began { IfOk result (λ machine.
         physical machine ≡ drive_over memory (physical machine).kept.durable) }
-    ensures count { IfOk result (λ machine. length (physical machine).kept.durable ≡ size / 512) }
+    ensures count { IfOk result (λ machine. length (physical machine).kept.durable ≡ size / SECTOR_BYTES) }
     ensures sectors { IfOk result (λ machine.
-        All (λ sector. length sector ≡ 512) (physical machine).kept.durable) }
+        All (λ sector. length sector ≡ SECTOR_BYTES) (physical machine).kept.durable) }
     ensures disk { IfOk result (λ machine. IfTold ((H.outside host.old).told Disk)
         (λ bytes. (physical machine).kept.durable ≡ sectors_of_disk bytes)) }
 {
-    let Ok(mut store) = MemoryStore::new(alloc, size / 512) else {
+    let Ok(mut store) = MemoryStore::new(alloc, size / SECTOR_BYTES as u64) else {
         return Err(Stop::NoMemory);
     };
     read_disk(host, &mut store)?;
@@ -63,8 +64,8 @@ pub(crate) fn load<H: Host>(
 
 // Reads all sectors of the disk.
 fn read_disk<H: Host>(host: &mut H, store: &mut MemoryStore) -> Result<(), Stop>
-    requires few { 512 * length (list_of store.old) < 2 ^ 64 }
-    requires told { HasLength Disk (H.outside host.old) (512 * length (list_of store.old)) }
+    requires few { SECTOR_BYTES * length (list_of store.old) < 2 ^ 64 }
+    requires told { HasLength Disk (H.outside host.old) (SECTOR_BYTES * length (list_of store.old)) }
     ensures stops { IfErr result (StopsAt loading) }
     ensures looked { KeepsLooked (H.outside host.old) (H.outside host.new) }
     ensures counts { IsCounted result (H.outside host.old) (H.outside host.new) }
@@ -82,8 +83,8 @@ fn read_disk<H: Host>(host: &mut H, store: &mut MemoryStore) -> Result<(), Stop>
 // Reads a sector of the disk.
 fn read_sector<H: Host>(host: &mut H, store: &mut MemoryStore, sector: u64) -> Result<(), Stop>
     requires within { sector < length (list_of store.old) }
-    requires few { 512 * length (list_of store.old) < 2 ^ 64 }
-    requires told { HasLength Disk (H.outside host.old) (512 * length (list_of store.old)) }
+    requires few { SECTOR_BYTES * length (list_of store.old) < 2 ^ 64 }
+    requires told { HasLength Disk (H.outside host.old) (SECTOR_BYTES * length (list_of store.old)) }
     ensures stops { IfErr result (StopsAt loading) }
     ensures looked { KeepsLooked (H.outside host.old) (H.outside host.new) }
     ensures counts { IsCounted result (H.outside host.old) (H.outside host.new) }
@@ -93,8 +94,8 @@ fn read_sector<H: Host>(host: &mut H, store: &mut MemoryStore, sector: u64) -> R
         (λ disk. take sector (list_of store.old) ≡ sectors_in sector disk
         → take (sector + 1) (list_of store.new) ≡ sectors_in (sector + 1) disk)) }
 {
-    let mut bytes = [0; 512];
-    let Ok(()) = host.read_at(Role::Disk, sector * 512, &mut bytes) else {
+    let mut bytes = [0; SECTOR_BYTES];
+    let Ok(()) = host.read_at(Role::Disk, sector * SECTOR_BYTES as u64, &mut bytes) else {
         return Err(Stop::ReadFault(Role::Disk));
     };
     // A store in memory has no fault.
@@ -147,10 +148,10 @@ fn write_sector<H: Host>(
         → Waits Out piece.new.items (H.outside host.new)
         (text ++ slice_index_or (physical machine.old).kept.durable sector [])) }
 {
-    let mut value = [0; 512];
+    let mut value = [0; SECTOR_BYTES];
     // A store in memory has no fault.
     machine.drive.durable(sector, &mut value).unwrap();
-    make_room(host, Role::Out, piece, 512)?;
+    make_room(host, Role::Out, piece, SECTOR_BYTES)?;
     piece.try_extend_from_slice(&value).unwrap();
     Ok(())
 }

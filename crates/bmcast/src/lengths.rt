@@ -14,6 +14,7 @@ ghost use Rattle.bmcast.specs.Stages.{StopsAt, measuring};
 
 use crate::Why;
 use crate::stop::Stop;
+use ata_taskfile::registers::SECTOR_BYTES;
 use bm_host::{Failed, Host, Role};
 use fill_bitmap::{Unsuitable, area_of};
 use run_words::Options;
@@ -27,7 +28,7 @@ pub(crate) fn measure<H: Host>(host: &mut H, options: &Options<'_>) -> Result<u6
     ensures unopened { IsUnopened (H.outside host.old) (H.outside host.new) }
     ensures console { SameConsole (H.outside host.old) (H.outside host.new) }
     ensures disk { IfOk result (HasLength Disk (H.outside host.old)) }
-    ensures whole { IfOk result (λ n. n % 512 ≡ 0) }
+    ensures whole { IfOk result (λ n. n % SECTOR_BYTES ≡ 0) }
     ensures looked { KeepsLooked (H.outside host.old) (H.outside host.new) }
     ensures suitable { OnOk result (Measured (H.outside host.old) (CanRun options.now.block)) }
     ensures stops { IfErr result (StopsAt (measuring options.now.block (H.outside host.old))) }
@@ -51,7 +52,7 @@ fn check(image: u64, disk: u64, block: u64) -> Result<(), Stop>
     ensures stops { (o : Outside) → HasLength Image o image → HasLength Disk o disk
         → IfErr result (StopsAt (measuring block o)) }
     ensures counts { (o : Outside) → IsCounted result o o }
-    ensures whole { OnOk result (disk % 512 ≡ 0) }
+    ensures whole { OnOk result (disk % SECTOR_BYTES ≡ 0) }
 {
     match area_of(image, disk, block as u32) {
         Err(why) => Err(Stop::Unsuitable(why_of(why))),

@@ -22,6 +22,7 @@ use crate::machine::Machine;
 use crate::play::play;
 use crate::stop::Stop;
 use crate::streams::Streams;
+use ata_taskfile::registers::SECTOR_BYTES;
 use bm_dma::MOST_BYTES;
 use bm_host::{Host, Role};
 use run_words::{Options, read_options};
@@ -60,7 +61,7 @@ fn run_events<H: Host>(
     options: &Options<'_>,
     size: u64,
 ) -> Result<(), Stop>
-    requires whole { size % 512 ≡ 0 }
+    requires whole { size % SECTOR_BYTES ≡ 0 }
     requires memory { options.now.memory ≤ MOST_BYTES }
     requires disk { HasLength Disk (H.outside host.old) size }
     ensures counts { IsCounted result (H.outside host.old) (H.outside host.new) }
@@ -83,7 +84,7 @@ fn run_events<H: Host>(
         Ok(()) => {}
         Err(stop) => return Err(stop),
     }
-    match write_out(host, &mut machine, size / 512) {
+    match write_out(host, &mut machine, size / SECTOR_BYTES as u64) {
         Ok(()) => {}
         Err(stop) => return Err(stop),
     }
