@@ -23,17 +23,16 @@ pub reset_ended_lawful : (f : TaskFile) (b : Bus) (words n : ℕ) → f.phase �
 reset_ended_lawful f b words n e free l = grind arith
 
 -- a command that fails, and had no walk to itself
-pub failed_lawful : (error : ℕ) (f g : TaskFile) (b : Bus) (words n : ℕ) → has_order f.phase ≡ true
-    → is_moving f.phase ≡ false → g.control ≡ f.control
-    → IsLawfulState f b words n → IsLawfulState (ended_failed error g) b words n
-failed_lawful error f g b words n in_hand still c l = grind arith
+failed_lawful : (error : ℕ) (f : TaskFile) (b : Bus) (words n : ℕ) → has_order f.phase ≡ true
+    → is_moving f.phase ≡ false → IsLawfulState f b words n → IsLawfulState (ended_failed error f) b words n
+failed_lawful error f b words n in_hand still l = grind arith
 
 -- a refused command that ends
 pub refused_lawful : (reason : Refused) (f : TaskFile) (b : Bus) (words n : ℕ) → has_order f.phase ≡ true
     → is_moving f.phase ≡ false
     → IsLawfulState f b words n → IsLawfulState (refused reason f) b words n
-refused_lawful reason f b words n in_hand still l = failed_lawful (refusal_bit reason) f f b words
-    n in_hand still refl l
+refused_lawful reason f b words n in_hand still l = failed_lawful (refusal_bit reason) f b words
+    n in_hand still l
 
 -- the sector that is due of a block that is read
 pub is_due : (f : TaskFile) (b : Bus) (words n : ℕ) (order : Request) (done : ℕ) → f.phase ≡ Busy (Good order) done

@@ -23,7 +23,7 @@ use Rattle.ata_taskfile.specs.Order.{inputs, Inputs, order_of, taken}
 use Rattle.ata_taskfile.specs.Data.{phase_after_read, phase_after_write, block_after_write}
 use Rattle.ata_taskfile.specs.Device.{Device, with_bus, after_wrote, in_hand, bus_in_reset}
 use Rattle.ata_taskfile.specs.Access.{accessed}
-use Rattle.ata_taskfile.specs.Lawful.{end_of, has_its_words, is_in_reset, is_possible, end_in, IsLawfulPhase, AreLawful, IsLawfulState, IsLawful}
+use Rattle.ata_taskfile.specs.Lawful.{end_of, has_its_words, is_in_reset, is_possible, end_in, IsLawfulPhase, AreLawful, HasTwoBytes, IsLawfulState, IsLawful}
 
 -- Device Control without HOB keeps its bits
 cleared-kept : (c : ℕ) → bit_and c 134 ≡ c → bit_and (bit_and c 127) 134 ≡ bit_and c 127
@@ -99,13 +99,17 @@ IsLawfulAfter (Command byte) phase g b words n = IsLawfulState (in_hand byte n g
 IsLawfulAfter ResetBegun phase g b words n = IsLawfulState g (bus_in_reset phase b) words n
 
 module _ (f : TaskFile) (b : Bus) (words n : ℕ) (l : IsLawfulState f b words n) where
+  -- a byte that moves into a two-byte register leaves two there
+  stored-pairs : (r : Reg) (v : ℕ) → HasTwoBytes (stored r v f)
+  stored-pairs r v = let two = l.pairs in grind arith
+
   -- a write to the command block that is no command
-  block-written : (at_work : Bool) (g : TaskFile) → is_at_work f.phase ≡ at_work
+  block-written : (at_work : Bool) (g : TaskFile) → HasTwoBytes g → is_at_work f.phase ≡ at_work
       → g.control ≡ bit_and f.control 127 → g.error ≡ f.error → g.failed ≡ f.failed → g.pending ≡ f.pending
       → g.phase ≡ f.phase
       → IsLawfulAfter (if at_work then Ignored else Stored) f.phase (if at_work then f else g) b words n
-  block-written true g at c e failed p phase = l
-  block-written false g at c e failed p phase =
+  block-written true g two at c e failed p phase = l
+  block-written false g two at c e failed p phase =
       let k = cleared-kept f.control l.registers.kept in
       let s = and_assoc 4 f.control 127 in
       grind (arith, k, s)
@@ -125,6 +129,7 @@ module _ (f : TaskFile) (b : Bus) (words n : ℕ) (l : IsLawfulState f b words n
             here possible l.registers;
         within = order-within v n (inputs f);
         block = taken-block order words;
+        pairs = l.pairs;
       }
 
   -- a write of Device Control that begins no reset
@@ -161,12 +166,18 @@ module _ (f : TaskFile) (b : Bus) (words n : ℕ) (l : IsLawfulState f b words n
 
   -- a write to a register of the task file
   written-lawful : (r : Reg) (v : ℕ) → IsLawfulAfter (wrote r v f) f.phase (after_write r v f) b words n
-  written-lawful reg.Error v = block-written (is_at_work f.phase) (stored reg.Error v f) refl refl refl refl refl refl
-  written-lawful reg.Count v = block-written (is_at_work f.phase) (stored reg.Count v f) refl refl refl refl refl refl
-  written-lawful reg.Low v = block-written (is_at_work f.phase) (stored reg.Low v f) refl refl refl refl refl refl
-  written-lawful reg.Mid v = block-written (is_at_work f.phase) (stored reg.Mid v f) refl refl refl refl refl refl
-  written-lawful reg.High v = block-written (is_at_work f.phase) (stored reg.High v f) refl refl refl refl refl refl
-  written-lawful reg.Device v = block-written (is_at_work f.phase) (stored reg.Device v f) refl refl refl refl refl refl
+  written-lawful reg.Error v =
+      block-written (is_at_work f.phase) (stored reg.Error v f) (stored-pairs reg.Error v) refl refl refl refl refl refl
+  written-lawful reg.Count v =
+      block-written (is_at_work f.phase) (stored reg.Count v f) (stored-pairs reg.Count v) refl refl refl refl refl refl
+  written-lawful reg.Low v =
+      block-written (is_at_work f.phase) (stored reg.Low v f) (stored-pairs reg.Low v) refl refl refl refl refl refl
+  written-lawful reg.Mid v =
+      block-written (is_at_work f.phase) (stored reg.Mid v f) (stored-pairs reg.Mid v) refl refl refl refl refl refl
+  written-lawful reg.High v =
+      block-written (is_at_work f.phase) (stored reg.High v f) (stored-pairs reg.High v) refl refl refl refl refl refl
+  written-lawful reg.Device v =
+      block-written (is_at_work f.phase) (stored reg.Device v f) (stored-pairs reg.Device v) refl refl refl refl refl refl
   written-lawful reg.Status v = command-written (takes_no_command f.phase || selects_absent f) v refl
   written-lawful reg.Alternate v = control-written (has_bit SRST v) v refl
   written-lawful reg.BusCommand v = l
@@ -243,6 +254,7 @@ module _ (d : Device) (l : IsLawful d) where
         d.file.phase d.bus l.registers;
     within = read_word-within d.file.phase d.sectors l.within;
     block = read_word-block d.file.phase (length d.block) l.registers.goes_on l.block;
+    pairs = l.pairs;
   }
 
   -- a word written to Data
@@ -252,6 +264,7 @@ module _ (d : Device) (l : IsLawful d) where
         d.file.phase d.bus l.registers;
     within = write_word-within d.file.phase d.sectors l.within;
     block = write_word-block d.file.phase w d.block l.registers.goes_on l.block;
+    pairs = l.pairs;
   }
 
 -- any access

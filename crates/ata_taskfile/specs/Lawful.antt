@@ -1,5 +1,5 @@
 -- What every device keeps: of its registers, of the command in hand, and of the block in Data.
-use Rattle.std.specs.Prelude.{ℕ, Bool, true, false, not, ◌≡◌, ◌&&◌, ◌||◌, ◌==◌, ◌+◌, ◌-◌, ◌%◌, ◌<◌, ◌≤◌, if◌then◌else◌, nat_lt, bit_and, Option, Some, None, is_some, length}
+use Rattle.std.specs.Prelude.{ℕ, Bool, true, false, not, ◌≡◌, ◌&&◌, ◌||◌, ◌==◌, ◌+◌, ◌-◌, ◌%◌, ◌<◌, ◌≤◌, if◌then◌else◌, nat_lt, bit_and, Option, Some, None, is_some, List, length}
 use Rattle.ata_taskfile.specs.declared.Kind.{Kind}
 use Rattle.ata_taskfile.specs.declared.Kind.TheVariants.{Read, Write, Verify, Flush, Identify, Features}
 use Rattle.ata_taskfile.specs.declared.Form.{Form}
@@ -176,11 +176,24 @@ has_its_words (Ready (Good order) done left) words =
     if takes_words order.form then words == BLOCK_WORDS - left else words == BLOCK_WORDS
 has_its_words (Ready (Bad reason) done left) words = true
 
+-- these registers have two bytes each, the current one and then the previous one (ATA/ATAPI-6, 48-bit Address
+-- feature set)
+pub record ArePairs (counts lows mids highs : List ℕ) : Type 0 where
+  pub count : length counts ≡ 2
+  pub low : length lows ≡ 2
+  pub mid : length mids ≡ 2
+  pub high : length highs ≡ 2
+
+-- each two-byte register has two bytes
+abbrev pub HasTwoBytes : TaskFile → Type 0
+HasTwoBytes f = ArePairs f.count f.low f.mid f.high
+
 -- registers, bus master, block of so many words and count of sectors as every device has them
 pub record IsLawfulState (f : TaskFile) (b : Bus) (words sectors : ℕ) : Type 0 where
   pub registers : HasLawfulRegisters f b
   pub within : end_of f.phase ≤ sectors
   pub block : has_its_words f.phase words ≡ true
+  pub pairs : HasTwoBytes f
 
 -- a device as every one is
 abbrev pub IsLawful : Device → Type 0

@@ -12,7 +12,7 @@ use Rattle.ata_taskfile.specs.TaskFile.{ended_failed, interrupted_in, addressed}
 use Rattle.ata_taskfile.specs.Bus.{walk_ended}
 use Rattle.ata_taskfile.specs.Order.{has_range}
 use Rattle.ata_taskfile.specs.Data.{takes_words, moves_by_bus}
-use Rattle.ata_taskfile.specs.Lawful.{AreLawful, IsLawfulState}
+use Rattle.ata_taskfile.specs.Lawful.{AreLawful, HasTwoBytes, IsLawfulState}
 use Rattle.bm_dma.specs.Run.{run_of, sector_places, is_tables_end}
 use Rattle.bm_dma.proofs.Searching.{found_as}
 use Rattle.bm_dma.specs.Move.{moved_as, outcome, outcome_in, bus_after, bus_next, bus_in}
@@ -32,6 +32,7 @@ ended_lawful f b words n order done e still l = record {
   registers = ended_registers f.phase order done f.control f.device f.error f.failed f.pending b e still l.registers;
   within = omega arith;
   block = refl;
+  pairs = l.pairs;
 }
 
 -- a walk that ends
@@ -45,6 +46,7 @@ walk_ended_lawful f b words n l = record {
   registers = walk_ended_registers f.phase f.control f.device f.error f.failed f.pending b l.registers;
   within = l.within;
   block = l.block;
+  pairs = l.pairs;
 }
 
 -- a command that ends well, with its walk
@@ -60,6 +62,7 @@ transferred_lawful f b words n order done e l = record {
   registers = transferred_registers f.phase order done f.control f.device f.error f.failed f.pending b e l.registers;
   within = omega arith;
   block = refl;
+  pairs = l.pairs;
 }
 
 -- a sector that the bus master has tried
@@ -97,6 +100,7 @@ walked_lawful f b words n order done memory e moves more l = record {
       f.pending b refl e moves more l.registers;
   within = let h = l.within in rw e at h;
   block = grind arith;
+  pairs = l.pairs;
 }
 
 -- a block that is wanted in Data
@@ -114,6 +118,7 @@ wanted_lawful f b words n order done e takes more l = record {
       true b e takes more l.registers;
   within = let h = l.within in rw e at h;
   block = grind arith;
+  pairs = l.pairs;
 }
 
 -- a write has a first sector
@@ -135,6 +140,7 @@ first_wanted_lawful f b words n order done e start takes l =
           l.registers;
       within = let h = l.within in rw e at h;
       block = grind arith;
+      pairs = l.pairs;
     }
 
 -- a command that fails, with its walk
@@ -152,6 +158,15 @@ addressed-control true sector f = refl
 shown-control : (order : Request) (done : ℕ) (f : TaskFile) → (failure_shown order done f).control ≡ f.control
 shown-control order done f = grind (arith, addressed-control)
 
+-- and two bytes in each two-byte register
+addressed-pairs : (extended : Bool) (sector : ℕ) (f : TaskFile) → HasTwoBytes f
+    → HasTwoBytes (addressed extended sector f)
+addressed-pairs false sector f two = record { count = two.count; low = refl; mid = refl; high = refl }
+addressed-pairs true sector f two = record { count = two.count; low = refl; mid = refl; high = refl }
+
+shown-pairs : (order : Request) (done : ℕ) (f : TaskFile) → HasTwoBytes f → HasTwoBytes (failure_shown order done f)
+shown-pairs order done f two = grind (arith, addressed-pairs)
+
 pub given_up_lawful : (error : ℕ) (f : TaskFile) (b : Bus) (words n : ℕ) (order : Request) (done : ℕ)
     → f.phase ≡ Busy (Good order) done
     → IsLawfulState f b words n
@@ -163,6 +178,7 @@ given_up_lawful error f b words n order done e l = record {
       error f.error f.failed f.pending b e l.registers);
   within = omega arith;
   block = refl;
+  pairs = shown-pairs order done f l.pairs;
 }
 
 -- the sector of the block that came, which is whole

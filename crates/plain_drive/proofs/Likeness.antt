@@ -158,6 +158,10 @@ module _ (d e : Plain) (same : beside_command e ≡ beside_command d) where
   accessed_beside a = ap (λ r. beside_command (after_access a r)) command_as
       ∙ ap (λ r. record d { device = r }) (command_accessed e.device.file.command a d.device)
 
+  pub acts_beside : (s : Step) → acts s e ≡ acts s d
+  acts_beside s = ap (acts s) command_as
+      ∙ acts_dressed e.device.file.command d.device.block d.device.cells s d
+
   pub stepped_beside : (s : Step) → beside_command (step_made s e) ≡ beside_command (step_made s d)
   stepped_beside s = ap (λ r. beside_command (step_made s r)) command_as
       ∙ ap beside_command (command_stepped e.device.file.command s d)

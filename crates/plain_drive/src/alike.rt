@@ -51,12 +51,14 @@ pub fn steps_keep_drives_alike()
 {}
 
 /// Two drives that differ in the byte of the last command alone answer alike, and differ in no more after the same
-/// access or step.
+/// access or step, which has an effect on both or on none.
 pub fn nothing_looks_at_the_last_command()
     ensures answer { (access : Access) (d e : Plain) → beside_command e ≡ beside_command d
         → answer_to access e.device ≡ answer_to access d.device }
     ensures access { (access : Access) (d e : Plain) → beside_command e ≡ beside_command d
         → beside_command (after_access access e) ≡ beside_command (after_access access d) }
+    ensures acts { (step : StepOf) (d e : Plain) → beside_command e ≡ beside_command d
+        → acts step e ≡ acts step d }
     ensures step { (step : StepOf) (d e : Plain) → beside_command e ≡ beside_command d
         → beside_command (step_made step e) ≡ beside_command (step_made step d) }
 {}

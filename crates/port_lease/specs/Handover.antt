@@ -1,5 +1,5 @@
 -- What taking, giving and removing make of the drive and of the view.
-use Rattle.std.specs.Prelude.{◌≡◌, ℕ, Bool, not, ◌&&◌, ◌==◌, if◌then◌else◌, slice_index, length, List, [], ◌∷◌}
+use Rattle.std.specs.Prelude.{◌≡◌, ℕ, Bool, not, ◌&&◌, ◌==◌, if◌then◌else◌, List, [], ◌∷◌}
 use Rattle.ata_taskfile.specs.declared.Phase.TheVariants.{Busy}
 use Rattle.ata_taskfile.specs.declared.task_file.TaskFile.{TaskFile}
 use Rattle.ata_taskfile.specs.declared.bus_master.Bus.{Bus}
@@ -11,34 +11,9 @@ use Rattle.ata_taskfile.specs.Device.{Device, with_bus}
 use Rattle.port_lease.specs.declared.view.View.{View}
 use Rattle.port_lease.specs.View.{uses_bus}
 
--- a two-byte register as it is read: its current byte, and its previous one
-abbrev pub both_bytes : List ℕ → List ℕ
-both_bytes bytes = slice_index bytes 0 ∷ slice_index bytes 1 ∷ []
-
--- each two-byte register has two bytes
-pub record HasTwoBytes (f : TaskFile) : Type 0 where
-  pub count : length f.count ≡ 2
-  pub low : length f.low ≡ 2
-  pub mid : length f.mid ≡ 2
-  pub high : length f.high ≡ 2
-
 -- the byte that each two-byte register shows: Count, Low, Mid, High
 abbrev pub shown_bytes : TaskFile → List ℕ
 shown_bytes f = shown f f.count ∷ shown f f.low ∷ shown f f.mid ∷ shown f f.high ∷ []
-
--- registers as they are read
-abbrev pub as_read : TaskFile → TaskFile
-as_read f = record f {
-  count = both_bytes f.count;
-  low = both_bytes f.low;
-  mid = both_bytes f.mid;
-  high = both_bytes f.high;
-}
-
--- the registers of the view after a take: the drive's, with the byte of the last command given, which no
--- register shows
-abbrev pub file_taken : TaskFile → TaskFile → TaskFile
-file_taken kept f = record (as_read f) { command = kept.command }
 
 -- the drive after a take: as it was, but that a walk of its is stopped
 abbrev pub after_take : Device → Device

@@ -1,14 +1,12 @@
-//! Laws: what the drive's steps between two calls keep, and that two-byte registers are read whole.
+//! Laws: what the drive's steps between two calls keep.
 
 ghost use Rattle.std.specs.Prelude.{◌≡◌, true};
 ghost use Rattle.ata_taskfile.specs.declared.Step.{Step as StepOf};
-ghost use Rattle.ata_taskfile.specs.declared.task_file.TaskFile.{TaskFile as FileOf};
 ghost use Rattle.plain_drive.specs.Plain.{Plain};
 ghost use Rattle.plain_drive.specs.Step.{step_made};
 ghost use Rattle.port_lease.specs.declared.view.View.{View as ViewOf};
 ghost use Rattle.port_lease.specs.View.{IsKept, IsGiven};
 ghost use Rattle.port_lease.specs.Free.{is_free};
-ghost use Rattle.port_lease.specs.Handover.{HasTwoBytes, as_read};
 
 /// On the guest's side every step of the drive, good or failing, keeps what `take` and `access` rest on.
 pub fn steps_keep_what_is_kept()
@@ -21,9 +19,4 @@ pub fn steps_keep_what_is_kept()
 /// On the monitor's side no step has an effect while the drive is free, so what `give` and `remove` find stays.
 pub fn steps_leave_a_free_drive()
     ensures { (step : StepOf) (p : Plain) → is_free p.device.file ≡ true → step_made step p ≡ p }
-{}
-
-/// Where each two-byte register has two bytes, a take reads all of it.
-pub fn two_bytes_are_read_whole()
-    ensures { (f : FileOf) → HasTwoBytes f → as_read f ≡ f }
 {}

@@ -6,7 +6,7 @@ ghost use Rattle.port_lease.specs.Free.{is_free};
 ghost use Rattle.port_lease.specs.View.{IsLawfulView, IsKept};
 ghost use Rattle.port_lease.specs.Seen.{AnswersAlike, seen_on_guest_side, seen_on_monitor_side, bus_on_guest_side};
 ghost use Rattle.port_lease.specs.Sides.{view_kept, view_held, has_own};
-ghost use Rattle.port_lease.specs.Handover.{after_take, file_taken, shown_bytes};
+ghost use Rattle.port_lease.specs.Handover.{after_take, shown_bytes};
 
 use crate::reading::{bus_of, is_free, peek};
 use crate::writing::{put_control, stop_walk};
@@ -29,8 +29,10 @@ pub fn take<P: Ports>(side: GuestSide, ports: &mut P) -> Result<MonitorSide, (Gu
     ensures free { is_ok result ≡ is_free (P.device ports.old).file }
 
     ensures drive { IfOk result (λ m. P.device ports.new ≡ after_take (P.device ports.old)) }
-    ensures file { IfOk result
-        (λ m. (view_held m).file ≡ file_taken (view_kept side).file (P.device ports.old).file) }
+
+    // The view's registers are the drive's, but for the byte of the last command given, which no register shows.
+    ensures file { IfOk result (λ m. (view_held m).file
+        ≡ record (P.device ports.old).file { command = (view_kept side).file.command }) }
     ensures bus { IfOk result
         (λ m. (view_held m).bus ≡ bus_on_guest_side (view_kept side) (P.device ports.old).bus) }
     ensures alone { IfOk result (λ m. has_own m ≡ false) }
@@ -63,7 +65,8 @@ fn file_of<P: Ports>(kept: &TaskFile, ports: &mut P) -> TaskFile
     requires free { is_free (P.device ports.old).file ≡ true }
     requires control { kept.now.control ≡ (P.device ports.old).file.control }
     requires features { kept.now.features ≡ (P.device ports.old).file.features }
-    ensures file { result ≡ file_taken kept.now (P.device ports.old).file }
+    ensures file { result
+        ≡ record (P.device ports.old).file { command = kept.now.command } }
     ensures unmoved { P.device ports.new ≡ P.device ports.old }
     ensures rest { P.rest ports.new ≡ P.rest ports.old }
 {

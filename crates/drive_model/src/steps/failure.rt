@@ -13,7 +13,7 @@ use drive_store::Store;
 
 impl<S: Store> Drive<S> {
     // Ends the command as failed, with its walk.
-    #[tactic(auto, using(plain_drive::proofs::Ends::walk_ended_lawful, plain_drive::proofs::Ends::given_up_lawful, plain_drive::proofs::Ends::order_within, plain_drive::proofs::Ends::within_count))]
+    #[tactic(auto, using(plain_drive::proofs::Ends::walk_ended_lawful, plain_drive::proofs::Ends::order_within, plain_drive::proofs::Ends::within_count))]
     pub(crate) fn give_up(&mut self, order: Request, done: u32) -> Stepped
         requires { self.old.file.phase ≡ Phase.Busy (Taken.Good order) done }
         ensures after { (memory : List ℕ) → physical_of self.new memory

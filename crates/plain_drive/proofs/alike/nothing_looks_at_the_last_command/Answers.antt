@@ -1,4 +1,4 @@
-use Rattle.plain_drive.proofs.Likeness.{same_answer_beside, accessed_beside, stepped_beside}
+use Rattle.plain_drive.proofs.Likeness.{same_answer_beside, accessed_beside, acts_beside, stepped_beside}
 use Rattle.plain_drive.proofs.alike.nothing_looks_at_the_last_command.Goals as goal
 
 pub returns-clause-answer : goal.returns-clause-answer
@@ -9,3 +9,6 @@ returns-clause-access c = λ access d e same. accessed_beside d e same access
 
 pub returns-clause-step : goal.returns-clause-step
 returns-clause-step c = λ step d e same. stepped_beside d e same step
+
+pub returns-clause-acts : goal.returns-clause-acts
+returns-clause-acts c = λ step d e same. acts_beside d e same step
