@@ -6,3 +6,4 @@ pub mod Device
 pub mod Access
 pub mod Accesses
 pub mod Lawful
+pub mod Sectors

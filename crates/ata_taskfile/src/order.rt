@@ -27,4 +27,14 @@ impl Taken {
             Err(reason) => Taken::Bad(reason),
         }
     }
+
+    /// What the device keeps, as an order that can be refused.
+    pub fn order(self) -> Result<Request, Refused>
+        ensures { taken result ≡ self }
+    {
+        match self {
+            Taken::Good(request) => Ok(request),
+            Taken::Bad(reason) => Err(reason),
+        }
+    }
 }

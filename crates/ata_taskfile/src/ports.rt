@@ -5,6 +5,7 @@ ghost use Rattle.ata_taskfile.specs.Device.{Device, byte_read, after_read8, afte
 ghost use Rattle.ata_taskfile.specs.Access.{answer_to, accessed};
 ghost use Rattle.ata_taskfile.specs.Accesses.{Reaches};
 ghost use Rattle.ata_taskfile.specs.Lawful.{IsLawful};
+ghost use Rattle.ata_taskfile.specs.Sectors.{HoldsSectors};
 
 use crate::{Access, Answer, Reg};
 
@@ -77,6 +78,9 @@ pub trait Ports {
 
     /// Every device is lawful.
     ghost lawful: { (p : Self) → IsLawful (device p) };
+
+    /// Each value that a sector has is 512 bytes.
+    ghost whole: { (p : Self) → HoldsSectors (device p) };
 }
 
 /// Makes one access, and gives its answer: `Nothing` to a write, and 1 or 0 to a look at the line.

@@ -3,3 +3,4 @@ pub mod Entries
 pub mod CachedStore
 pub mod Drive
 pub mod Data
+pub mod Whole

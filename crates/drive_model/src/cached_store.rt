@@ -1,7 +1,7 @@
 //! The sectors of a drive: a store behind a write cache.
 
 ghost use Rattle.std.specs.Prelude.{◌≡◌, ◌<◌, ◌^◌};
-ghost use Rattle.drive_model.specs.Entries.{AreWithin};
+ghost use Rattle.drive_model.specs.Entries.{AreSectors, AreWithin};
 ghost use Rattle.drive_model.specs.declared.cached_store.TheConstants.{MOST_ENTRIES};
 
 use ata_taskfile::Stepped;
@@ -21,6 +21,7 @@ pub(crate) struct CachedStore<S: Store> {
     ghost room: { cache.room ≡ MOST_ENTRIES },
     ghost few: { (S.sectors store).count < 2 ^ 64 },
     ghost within: { AreWithin (S.sectors store).count cache.entries },
+    ghost whole: { AreSectors cache.entries },
 }
 
 impl<S: Store + Drop> CachedStore<S> {

@@ -7,6 +7,7 @@ ghost use Rattle.ata_taskfile.specs.Data.{gives_words, word_given};
 ghost use Rattle.ata_taskfile.specs.Device.{after_write8, with_phase};
 ghost use Rattle.ata_taskfile.specs.Lawful.{IsLawfulState};
 ghost use Rattle.drive_model.specs.Drive.{Behind, behind, count_of, device_of};
+ghost use Rattle.drive_model.specs.Whole.{cells_hold};
 
 use crate::Drive;
 use ata_command::read_request;
@@ -78,6 +79,9 @@ impl<S: Store> Ports for Drive<S> {
 
     ghost lawful = { λ d. let P : ℕ → Type 0 = λ n. IsLawfulState d.file d.bus n (count_of d) in
         subst P (sym d.counted) d.lawful };
+
+    ghost whole = { λ d. cells_hold d.sectors.cache.entries _ _ d.sectors.whole
+        (S.whole d.sectors.store) };
 }
 
 impl<S: Store> Drive<S> {

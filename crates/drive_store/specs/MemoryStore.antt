@@ -1,7 +1,7 @@
 -- What a store in memory holds.
 use Rattle.std.specs.Prelude.{ℕ, length, replicate, Some}
 use Rattle.drive_store.specs.declared.memory_store.MemoryStore.{MemoryStore}
-use Rattle.drive_store.specs.declared.store.TheConstants.{SECTOR_BYTES}
+use Rattle.ata_taskfile.specs.declared.registers.TheConstants.{SECTOR_BYTES}
 use Rattle.drive_store.specs.Store.{Sectors}
 
 -- a store in memory tells its sectors (own)

@@ -1,8 +1,8 @@
 -- What a store holds, and what a call to it owes.
 use Rattle.std.specs.Prelude.{ℕ, ◌≡◌, List, length, All, Option, IfSome, Result, Ok, Err}
 use Rattle.bm_host.specs.Outside.{Rose}
+use Rattle.ata_taskfile.specs.Sectors.{IsSector}
 pub use Rattle.bm_host.specs.Outside.{Becomes}
-use Rattle.drive_store.specs.declared.store.TheConstants.{SECTOR_BYTES}
 
 -- so many sectors, and the bytes of each, one sector after the other, where these are told (own)
 pub record Sectors : Type 0 where
@@ -12,7 +12,7 @@ pub record Sectors : Type 0 where
 -- a list of so many whole sectors
 pub record IsListOf (count : ℕ) (list : List (List ℕ)) : Type 0 where
   pub number : length list ≡ count
-  pub sizes : All (λ bytes. length bytes ≡ SECTOR_BYTES) list
+  pub values : All IsSector list
 
 -- where sectors are told, they are as many as there are
 abbrev pub IsWhole : Sectors → Type 0

@@ -1,6 +1,7 @@
 //! The store in memory of which one call fails.
 
-use crate::{MemoryStore, SECTOR_BYTES, Store, StoreFault};
+use crate::{MemoryStore, Store, StoreFault};
+use ata_taskfile::registers::SECTOR_BYTES;
 
 /// A store in memory of which one call fails, by its number: for tests of what stands above a store.
 ///
@@ -74,7 +75,7 @@ impl Store for FailingStore {
 
     ghost rest = { λ _. tt };
 
-    ghost whole = { λ s. record { number = refl; sizes = s.memory.sizes } };
+    ghost whole = { λ s. record { number = refl; values = s.memory.values } };
 
     fn sectors(&self) -> u64 {
         self.memory.sectors()

@@ -19,7 +19,7 @@ mod tests;
 pub use failing_store::FailingStore;
 pub use memory_store::MemoryStore;
 pub use std::alloc::AllocError as NoMemory;
-pub use store::{SECTOR_BYTES, Store};
+pub use store::Store;
 
 /// A call to a store failed. Its count of faults rose.
 #[derive(Clone, Copy, Debug, PartialEq, Eq)]

@@ -1,16 +1,17 @@
 //! The store that keeps its sectors in memory.
 
-ghost use Rattle.std.specs.Prelude.{◌≡◌, length, All};
-ghost use Rattle.drive_store.specs.declared.store.TheConstants.{SECTOR_BYTES};
+ghost use Rattle.std.specs.Prelude.{All};
+ghost use Rattle.ata_taskfile.specs.Sectors.{IsSector};
 
-use crate::{SECTOR_BYTES, Store, StoreFault};
+use crate::{Store, StoreFault};
+use ata_taskfile::registers::SECTOR_BYTES;
 use std::alloc::{AllocError, Global};
 
 /// Sectors in memory, all told. No call of it fails, and none but `new` takes memory.
 #[derive(Drop)]
 pub struct MemoryStore {
     sectors: Vec<[u8; SECTOR_BYTES]>,
-    ghost sizes: { All (λ bytes. length bytes ≡ SECTOR_BYTES) sectors.items },
+    ghost values: { All IsSector sectors.items },
 }
 
 impl MemoryStore {
@@ -42,7 +43,7 @@ impl Store for MemoryStore {
 
     ghost rest = { λ _. tt };
 
-    ghost whole = { λ s. record { number = refl; sizes = s.sizes } };
+    ghost whole = { λ s. record { number = refl; values = s.values } };
 
     fn sectors(&self) -> u64 {
         self.sectors.len() as u64

@@ -4,9 +4,7 @@ ghost use Rattle.std.specs.Prelude.{◌≡◌, ◌<◌, ℕ, Some, IfSome, OnOk,
 ghost use Rattle.drive_store.specs.Store.{Sectors, IsWhole, Becomes, Counted};
 
 use crate::StoreFault;
-
-/// The bytes of a sector.
-pub const SECTOR_BYTES: usize = 512;
+use ata_taskfile::registers::SECTOR_BYTES;
 
 /// The durable sectors of a drive (own).
 ///

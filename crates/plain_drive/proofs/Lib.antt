@@ -14,3 +14,4 @@ pub mod Seen
 pub mod Accesses
 pub mod Dressed
 pub mod Likeness
+pub mod SectorValues

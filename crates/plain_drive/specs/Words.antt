@@ -1,5 +1,5 @@
 -- Words read from Data, and written to it, one after the other.
-use Rattle.std.specs.Prelude.{ℕ, ◌/◌, ◌%◌, zero, suc, List, [], ◌∷◌}
+use Rattle.std.specs.Prelude.{ℕ, ◌/◌, ◌%◌, ◌<◌, zero, suc, List, [], ◌∷◌, All}
 use Rattle.std.specs.List.{flat_map}
 use Rattle.ata_taskfile.specs.Device.{Device, word_read, after_read_word, after_write_word}
 
@@ -21,3 +21,7 @@ after_written (w ∷ words) d = after_written words (after_write_word w d)
 -- words in bytes, the low byte of each first (ATA/ATAPI-6, Data register)
 abbrev pub bytes_of : List ℕ → List ℕ
 bytes_of words = flat_map (λ word. (word % 256) ∷ (word / 256) ∷ []) words
+
+-- each is a word of 16 bits
+abbrev pub AreWords : List ℕ → Type 0
+AreWords numbers = All (λ number. number < 65536) numbers

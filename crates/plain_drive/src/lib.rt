@@ -16,6 +16,7 @@
 #![tactic(auto)]
 
 mod alike;
+mod bytes;
 mod caching;
 
 ghost use Rattle.std.specs.Prelude.{◌≡◌, ◌≢◌, ◌↔◌, ◌<◌, ℕ, List, [], map, replicate, length, slice_index_or, false};
@@ -39,6 +40,7 @@ pub use alike::{
     accesses_keep_drives_alike, alike_drives_answer_alike, likeness_is_mutual,
     nothing_looks_at_the_last_command, steps_keep_drives_alike,
 };
+pub use bytes::{sectors_are_held_whole, words_and_bytes_undo_each_other};
 pub use caching::{a_physical_drive_is_seen, ends_forget_older_values, ends_of_cells_are_kept};
 
 /// A value that is written is the current one of its sector, and the other sectors keep all of theirs.
@@ -84,6 +86,13 @@ pub fn a_step_without_effect_changes_nothing()
 /// A failing step moves no sector.
 pub fn a_bad_step_moves_no_sector()
     ensures { (p : Plain) → (bad_step p).device.cells ≡ p.device.cells }
+{}
+
+/// No step changes how many sectors there are.
+#[tactic(auto, using(crate::proofs::Dressed::step_sectors))]
+pub fn steps_keep_sectors()
+    ensures { (step : StepOf) (p : Plain) →
+        (step_made step p).device.sectors ≡ p.device.sectors }
 {}
 
 /// Every step, good or failing, leaves a lawful device lawful, where its sectors are whole.

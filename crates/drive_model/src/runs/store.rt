@@ -38,7 +38,7 @@ impl Store for FourSectors {
 
     ghost rest = { λ _. tt };
 
-    ghost whole = { λ s. record { number = s.four; sizes = s.inner.memory.sizes } };
+    ghost whole = { λ s. record { number = s.four; values = s.inner.memory.values } };
 
     fn sectors(&self) -> u64 {
         4

@@ -1,6 +1,8 @@
 use Rattle.std.proofs.Common.{◌≡◌, ℕ, ◌++◌, ◌∷◌, [], List, Some, length, replicate, ap, ◌∙◌, arith}
 use Rattle.std.proofs.lemmas.List.{length-replicate, replicate_more}
 use Rattle.std.proofs.lemmas.List.Elements.{All-replicate, All-same}
+use Rattle.ata_taskfile.specs.Sectors.{IsSector}
+use Rattle.drive_store.proofs.Zeros.{zeros}
 use Rattle.drive_store.proofs.memory_store.MemoryStore.new.Goals as goal
 
 pub loop-preserved : goal.loop-preserved
@@ -10,12 +12,10 @@ loop-preserved c =
     ∙ replicate_more c.loop.counter (replicate {A = ℕ} 512 0)
 
 pub invariant_of-result : goal.invariant_of-result
-invariant_of-result c =
-    let P : List ℕ → Type 0 = λ bytes. length bytes ≡ 512 in
-    record {
-      sizes = All-same P c.loop.zeros.items _ c.loop.invariant
-          (All-replicate P c.loop.counter (replicate 512 0) (length-replicate {A = ℕ} 512 0));
-    }
+invariant_of-result c = record {
+  values = All-same IsSector c.loop.zeros.items _ c.loop.invariant
+      (All-replicate IsSector c.loop.counter (replicate 512 0) zeros);
+}
 
 pub returns : goal.returns
 returns c =
