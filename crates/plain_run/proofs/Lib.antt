@@ -8,3 +8,4 @@ pub mod Written
 pub mod Sectors
 pub mod Sound
 pub mod Named
+pub mod Plans

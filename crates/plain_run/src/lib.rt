@@ -2,21 +2,23 @@
 //!
 //! Start with `specs/Entry.antt`, an event with what the report says of it, then `specs/Guest.antt` for what a guest
 //! does in an event, `specs/Event.antt` for one event of a plain drive and `specs/Run.antt` for a whole run of a drive
-//! that has no monitor. `specs/Taken.antt` says where a report tells that the drive took a command, and
-//! `specs/Written.antt` which sectors such lines name as written. The functions below are laws that show what the
+//! that has no monitor. `specs/Plan.antt` says what a plan makes of a drive, `specs/Taken.antt` where a report tells
+//! that the drive took a command, and `specs/Written.antt` which sectors such lines name as written. The functions below are laws that show what the
 //! definitions mean; `docs/drive.md` has the same in words.
 //!
 //! It has no tests of its own: those of `worked_runs` try its rules over whole runs.
 
 #![tactic(auto)]
 
-ghost use Rattle.std.specs.Prelude.{◌≡◌, ℕ, List, [], All, length, slice_index_or, false};
+ghost use Rattle.std.specs.Prelude.{◌≡◌, ◌↔◌, ℕ, List, [], All, length, slice_index_or, false};
 ghost use Rattle.plain_drive.specs.Plain.{Plain};
 ghost use Rattle.plain_drive.specs.Physical.{Physical, StandsFor, fresh, physical_at_power_on, seen};
 ghost use Rattle.schedule_text.specs.declared.Event.TheVariants.{Remark};
+ghost use Rattle.schedule_text.specs.declared.Item.{Item};
 ghost use Rattle.plain_run.specs.Entry.{Entry, answer_items, answers_in, commands_in, plan_in};
 ghost use Rattle.plain_run.specs.Guest.{answer_due};
-ghost use Rattle.plain_run.specs.Event.{PlainEvent};
+ghost use Rattle.plain_run.specs.Event.{FollowsPlan, PlainEvent};
+ghost use Rattle.plain_run.specs.Plan.{IsPlanned};
 ghost use Rattle.plain_run.specs.Run.{DriveEvent, HasPlainRun, IsDriveRun, plan_due};
 ghost use Rattle.plain_run.specs.Taken.{commands_due};
 ghost use Rattle.plain_run.specs.Written.{is_named};
@@ -36,6 +38,12 @@ pub fn what_is_due_is_told_once()
         → plan_in entry.items ≡ plan_due entry.event (seen old) }
     ensures commands { (old new : Physical) (entry : Entry) → DriveEvent old entry new
         → commands_in entry.items ≡ commands_due old.file new.file }
+{}
+
+/// A plan leads a plain drive to one place, where its steps end, and each of these has an effect.
+pub fn a_plan_is_followed()
+    ensures { (items : List Item) (old new : Plain) →
+        FollowsPlan items old new ↔ IsPlanned items old new }
 {}
 
 /// Each run of a physical drive that stands for a plain one is, with the same entries, a plain run beside it: its
