@@ -3,3 +3,4 @@ pub mod Scattered
 pub mod Searching
 pub mod Bounds
 pub mod Named
+pub mod Beside

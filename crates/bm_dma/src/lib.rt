@@ -18,7 +18,8 @@ mod search;
 mod tests;
 
 pub use laws::{
-    places_are_in_memory, runs_begin_with_a_descriptor, short_moves_are_below_a_sector,
+    a_walk_leaves_the_marks, places_are_in_memory, runs_begin_with_a_descriptor,
+    short_moves_are_below_a_sector,
 };
 pub use memory::{GuestMemory, MOST_BYTES};
 pub use moves::{Moved, move_in, move_out};
