@@ -16,10 +16,11 @@ use Rattle.port_lease.specs.View.{uses_bus, IsGiven, file_kept, bus_kept, reache
 use Rattle.port_lease.specs.Seen.{bus_beside, on_guest_side}
 
 -- the bus master on the guest's side, by whether the command given uses the drive's
-seen : Bool → Bus → Bus → Bus
+unfoldable pub seen : Bool → Bus → Bus → Bus
 seen moves kept b = if moves then record b { error = kept.error || b.error } else bus_beside kept b
 
-raised-seen : (was now moves : Bool) (kept b : Bus) → seen moves kept (raised was now b) ≡ raised was now
+-- a rise of the line shows in it alike
+pub raised-seen : (was now moves : Bool) (kept b : Bus) → seen moves kept (raised was now b) ≡ raised was now
     (seen moves kept b)
 unfolding seen
 raised-seen was now moves kept b = grind arith

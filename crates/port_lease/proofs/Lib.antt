@@ -4,3 +4,4 @@ pub mod Plain
 pub mod Guest
 pub mod Steps
 pub mod Whole
+pub mod GuestSteps

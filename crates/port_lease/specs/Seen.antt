@@ -6,6 +6,8 @@ use Rattle.ata_taskfile.specs.declared.bus_master.Bus.{Bus}
 use Rattle.ata_taskfile.specs.TaskFile.{is_of_bus, line, value}
 use Rattle.ata_taskfile.specs.Bus.{bus_value}
 use Rattle.ata_taskfile.specs.Device.{Device, with_bus}
+use Rattle.plain_drive.specs.Plain.{Plain}
+use Rattle.plain_drive.specs.Alike.{without_command}
 use Rattle.port_lease.specs.declared.view.View.{View}
 use Rattle.port_lease.specs.View.{uses_bus}
 
@@ -34,6 +36,10 @@ bus_on_guest_side v b =
 abbrev pub on_guest_side : View → Device → Device
 on_guest_side v d = with_bus (bus_on_guest_side v d.bus) d
 
+-- the same of a drive with its memory
+abbrev pub drive_on_guest_side : View → Plain → Plain
+drive_on_guest_side v p = record p { device = on_guest_side v p.device }
+
 -- what the guest sees on its side
 abbrev pub seen_on_guest_side : View → Device → Seen
 seen_on_guest_side v d = seen_of (on_guest_side v d)
@@ -47,6 +53,12 @@ seen_on_monitor_side v d =
 -- what a read of a register answers
 abbrev pub byte_seen : Reg → Seen → ℕ
 byte_seen r s = if is_of_bus r then bus_value r s.bus else value r s.file
+
+-- the guest has the same device as before: registers, but for the byte of the last command, bus master and line (own)
+pub record IsSame (old new : Seen) : Type 0 where
+  pub file : without_command new.file ≡ without_command old.file
+  pub bus : new.bus ≡ old.bus
+  pub line : new.line ≡ old.line
 
 -- each next read of a register, of the pointer or of the line answers the same
 pub record AnswersAlike (old new : Seen) : Type 0 where

@@ -3,13 +3,14 @@
 ghost use Rattle.std.specs.Prelude.{◌≡◌, true, false, is_some};
 ghost use Rattle.port_lease.specs.Free.{is_free};
 ghost use Rattle.port_lease.specs.View.{IsLawfulView, IsKept, IsGiven, uses_bus};
-ghost use Rattle.port_lease.specs.Seen.{AnswersAlike, seen_on_guest_side, seen_on_monitor_side};
+ghost use Rattle.port_lease.specs.Seen.{IsSame, AnswersAlike, seen_on_guest_side, seen_on_monitor_side};
 ghost use Rattle.port_lease.specs.Sides.{view_kept, view_held, has_own};
 ghost use Rattle.port_lease.specs.Handover.{IsOrdered, after_give, bus_given};
 ghost use Rattle.port_lease.specs.Writing.{MayBeGiven};
 ghost use Rattle.ata_taskfile.specs.declared.Phase.TheVariants.{Busy as AtWork};
 ghost use Rattle.ata_taskfile.specs.Order.{inputs, order_of, taken};
-ghost use Rattle.ata_taskfile.specs.Device.{with_bus};
+ghost use Rattle.ata_taskfile.specs.Device.{Device, with_bus};
+ghost use Rattle.ata_taskfile.specs.Accesses.{Reaches};
 ghost use Rattle.ata_taskfile.specs.Lawful.{is_just_taken};
 
 use crate::writing::{put_command, put_control, put_registers, start_bus};
@@ -19,7 +20,7 @@ use ata_taskfile::{Ports, TaskFile};
 /// Gives the drive to the guest with a command, at whose start the view stands: the drive is then at work on the
 /// view's order, over the view's registers, and a command that uses the bus master has the view's walk, which begins
 /// anew at the table's top.
-#[tactic(auto, using(crate::proofs::Alike::give_alike))]
+#[tactic(auto, using(crate::proofs::Alike::give_same, crate::proofs::Alike::give_alike))]
 pub fn give<P: Ports>(side: MonitorSide, ports: &mut P, command: u8) -> GuestSide
     requires lawful { IsLawfulView (view_held side) }
     requires ordered { IsOrdered (view_held side) command (P.device ports.old).sectors }
@@ -32,11 +33,16 @@ pub fn give<P: Ports>(side: MonitorSide, ports: &mut P, command: u8) -> GuestSid
     ensures kept { IsKept (view_kept result) (P.device ports.new).file }
     ensures given { IsGiven (view_kept result) (P.device ports.new) }
 
-    // Each next read of the guest's answers as before.
+    // The guest has the same device, so each next read of its answers as before.
+    ensures same { IsSame
+        (seen_on_monitor_side (view_held side) (P.device ports.old))
+        (seen_on_guest_side (view_kept result) (P.device ports.new)) }
     ensures reads { AnswersAlike
         (seen_on_monitor_side (view_held side) (P.device ports.old))
         (seen_on_guest_side (view_kept result) (P.device ports.new)) }
     ensures rest { P.rest ports.new ≡ P.rest ports.old }
+    ensures reached { (origin : Device) → Reaches origin (P.device ports.old)
+        → Reaches origin (P.device ports.new) }
 {
     let MonitorSide { view, own: _ } = side;
     give_bus(&view, ports);
@@ -52,6 +58,8 @@ fn give_bus<P: Ports>(view: &View, ports: &mut P)
     ensures given { let d = P.device ports.old in
         P.device ports.new ≡ with_bus (bus_given view.now d.bus) d }
     ensures rest { P.rest ports.new ≡ P.rest ports.old }
+    ensures reached { (origin : Device) → Reaches origin (P.device ports.old)
+        → Reaches origin (P.device ports.new) }
 {
     if view.file.phase.is_moving() {
         start_bus(ports, &view.bus);
@@ -67,6 +75,8 @@ fn give_command<P: Ports>(file: &TaskFile, ports: &mut P, command: u8)
     ensures given { let d = P.device ports.old in
         P.device ports.new ≡ record d { file = record file.now { command = command } } }
     ensures rest { P.rest ports.new ≡ P.rest ports.old }
+    ensures reached { (origin : Device) → Reaches origin (P.device ports.old)
+        → Reaches origin (P.device ports.new) }
 {
     // What an own command left in Device Control goes.
     put_control(ports, 0);

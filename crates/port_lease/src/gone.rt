@@ -1,6 +1,8 @@
 //! What is left when the monitor is gone.
 
 ghost use Rattle.std.specs.Prelude.{◌≡◌};
+ghost use Rattle.ata_taskfile.specs.Device.{Device};
+ghost use Rattle.ata_taskfile.specs.Accesses.{Reaches};
 ghost use Rattle.ata_taskfile.specs.Access.{answer_to, accessed};
 
 use ata_taskfile::{Access, Answer, Ports, perform};
@@ -18,6 +20,8 @@ impl Gone {
         ensures answer { result ≡ answer_to access.now (P.device ports.old) }
         ensures after { P.device ports.new ≡ accessed access.now (P.device ports.old) }
         ensures rest { P.rest ports.new ≡ P.rest ports.old }
+        ensures reached { (origin : Device) → Reaches origin (P.device ports.old)
+            → Reaches origin (P.device ports.new) }
     {
         perform(ports, access)
     }

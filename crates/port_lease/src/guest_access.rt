@@ -2,8 +2,10 @@
 
 ghost use Rattle.std.specs.Prelude.{◌≡◌, ◌≢◌, true, false};
 ghost use Rattle.ata_taskfile.specs.Access.{answer_to, accessed};
+ghost use Rattle.ata_taskfile.specs.declared.Phase.{Phase};
 ghost use Rattle.ata_taskfile.specs.TaskFile.{is_of_bus, is_at_work, selects_absent};
-ghost use Rattle.ata_taskfile.specs.Device.{byte_read, after_read8, after_write8, pointer_read};
+ghost use Rattle.ata_taskfile.specs.Device.{Device, byte_read, after_read8, after_write8, pointer_read};
+ghost use Rattle.ata_taskfile.specs.Accesses.{Reaches};
 ghost use Rattle.port_lease.specs.Quiet.{IsQuiet};
 ghost use Rattle.port_lease.specs.View.{IsKept, IsGiven, is_status_or_command, is_command, reached, file_kept, bus_kept, pointer_kept, control_kept, with_kept};
 ghost use Rattle.port_lease.specs.Seen.{on_guest_side};
@@ -41,6 +43,8 @@ impl GuestSide {
         ensures others { (view_kept self.new).file
             ≡ with_kept (P.device ports.new).file (view_kept self.old).file }
         ensures rest { P.rest ports.new ≡ P.rest ports.old }
+        ensures reached { (origin : Device) → Reaches origin (P.device ports.old)
+            → Reaches origin (P.device ports.new) }
     {
         match *access {
             Access::Read8(reg) => Answer::Byte(read8(&self.view, ports, reg)),
@@ -65,6 +69,8 @@ impl GuestSide {
             ≡ file_kept reg v (P.device ports.old).file.phase (view_kept self.old).file }
         ensures bus { (view_kept self.new).bus ≡ bus_kept reg v (view_kept self.old) }
         ensures rest { P.rest ports.new ≡ P.rest ports.old }
+        ensures reached { (origin : Device) → Reaches origin (P.device ports.old)
+            → Reaches origin (P.device ports.new) }
     {
         if reg.is_of_bus() {
             write_bus(&mut self.view, ports, reg, v);
@@ -79,6 +85,8 @@ impl GuestSide {
         ensures file { (view_kept self.new).file ≡ (view_kept self.old).file }
         ensures bus { (view_kept self.new).bus ≡ pointer_kept v (view_kept self.old) }
         ensures rest { P.rest ports.new ≡ P.rest ports.old }
+        ensures reached { (origin : Device) → Reaches origin (P.device ports.old)
+            → Reaches origin (P.device ports.new) }
     {
         if self.view.file.phase.is_moving() {
             ports.write_pointer(v);
@@ -92,6 +100,8 @@ fn read8<P: Ports>(view: &View, ports: &mut P, reg: Reg) -> u8
     ensures answer { result ≡ byte_read reg (on_guest_side view.now (P.device ports.old)) }
     ensures drive { P.device ports.new ≡ after_read8 reg (P.device ports.old) }
     ensures rest { P.rest ports.new ≡ P.rest ports.old }
+    ensures reached { (origin : Device) → Reaches origin (P.device ports.old)
+        → Reaches origin (P.device ports.new) }
 {
     match reg {
         Reg::BusCommand if !view.file.phase.is_moving() => view.bus.read(reg),
@@ -107,6 +117,8 @@ fn status_seen<P: Ports>(view: &View, ports: &mut P) -> u8
         ≡ byte_read Reg.BusStatus (on_guest_side view.now (P.device ports.old)) }
     ensures drive { P.device ports.new ≡ P.device ports.old }
     ensures rest { P.rest ports.new ≡ P.rest ports.old }
+    ensures reached { (origin : Device) → Reaches origin (P.device ports.old)
+        → Reaches origin (P.device ports.new) }
 {
     let shown = peek(ports, Reg::BusStatus);
     let active = if view.file.phase.is_moving() {
@@ -141,6 +153,8 @@ fn write_bus<P: Ports>(view: &mut View, ports: &mut P, reg: Reg, v: u8)
     ensures file { view.new.file ≡ view.old.file }
     ensures bus { view.new.bus ≡ bus_kept reg v view.old }
     ensures rest { P.rest ports.new ≡ P.rest ports.old }
+    ensures reached { (origin : Device) → Reaches origin (P.device ports.old)
+        → Reaches origin (P.device ports.new) }
 {
     let uses_bus = view.file.phase.is_moving();
     if let Reg::BusStatus = reg {
@@ -159,6 +173,8 @@ fn write_file<P: Ports>(kept: &mut TaskFile, ports: &mut P, reg: Reg, v: u8)
     ensures drive { P.device ports.new ≡ after_write8 reg v (P.device ports.old) }
     ensures kept { kept.new ≡ file_kept reg v (P.device ports.old).file.phase kept.old }
     ensures rest { P.rest ports.new ≡ P.rest ports.old }
+    ensures reached { (origin : Device) → Reaches origin (P.device ports.old)
+        → Reaches origin (P.device ports.new) }
 {
     if let Reg::Alternate = reg {
         ports.write8(reg, v);
@@ -185,12 +201,22 @@ fn write_plain<P: Ports>(kept: &mut TaskFile, ports: &mut P, reg: Reg, v: u8)
     ensures written { P.device ports.new ≡ after_write8 reg v (P.device ports.old) }
     ensures kept { kept.new ≡ file_kept reg v (P.device ports.old).file.phase kept.old }
     ensures rest { P.rest ports.new ≡ P.rest ports.old }
+    ensures reached { (origin : Device) → Reaches origin (P.device ports.old)
+        → Reaches origin (P.device ports.new) }
 {
     let ignored = is_at_work(ports);
     put_register(ports, reg, v);
-    if ignored {
-        return;
+    if !ignored {
+        keep_plain(kept, reg, v);
     }
+}
+
+// What is kept of a write to the command block that the drive takes: HOB goes, and Features is the byte written.
+fn keep_plain(kept: &mut TaskFile, reg: Reg, v: u8)
+    requires plain { is_plain_register reg ≡ true }
+    ensures kept { (phase : Phase) → is_at_work phase ≡ false
+        → kept.new ≡ file_kept reg v phase kept.old }
+{
     kept.control &= !HOB;
     if let Reg::Error = reg {
         kept.features = v;
@@ -202,6 +228,8 @@ fn is_at_work<P: Ports>(ports: &mut P) -> bool
     ensures at_work { result ≡ is_at_work (P.device ports.old).file.phase }
     ensures asked { P.device ports.new ≡ asked (P.device ports.old) }
     ensures rest { P.rest ports.new ≡ P.rest ports.old }
+    ensures reached { (origin : Device) → Reaches origin (P.device ports.old)
+        → Reaches origin (P.device ports.new) }
 {
     let device = peek(ports, Reg::Device);
     if has_bit(DEV, device) {
@@ -218,6 +246,8 @@ fn ignores<P: Ports>(ports: &mut P, device: u8) -> bool
     ensures at_work { result ≡ is_at_work (P.device ports.old).file.phase }
     ensures asked { P.device ports.new ≡ asked (P.device ports.old) }
     ensures rest { P.rest ports.new ≡ P.rest ports.old }
+    ensures reached { (origin : Device) → Reaches origin (P.device ports.old)
+        → Reaches origin (P.device ports.new) }
 {
     put_register(ports, Reg::Device, other(device));
     let ignored = peek(ports, Reg::Device) == device;

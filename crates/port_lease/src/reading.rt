@@ -1,7 +1,8 @@
 //! What the monitor reads of the drive, which leaves no trace there.
 
 ghost use Rattle.std.specs.Prelude.{◌≡◌, false};
-ghost use Rattle.ata_taskfile.specs.Device.{byte_read};
+ghost use Rattle.ata_taskfile.specs.Device.{Device, byte_read};
+ghost use Rattle.ata_taskfile.specs.Accesses.{Reaches};
 ghost use Rattle.ata_taskfile.specs.Lawful.{moved_by};
 ghost use Rattle.port_lease.specs.Free.{shows_rest, is_free};
 ghost use Rattle.port_lease.specs.View.{is_status_or_command};
@@ -17,6 +18,8 @@ pub(crate) fn peek<P: Ports>(ports: &mut P, reg: Reg) -> u8
     ensures byte { result ≡ byte_read reg (P.device ports.old) }
     ensures unmoved { P.device ports.new ≡ P.device ports.old }
     ensures rest { P.rest ports.new ≡ P.rest ports.old }
+    ensures reached { (origin : Device) → Reaches origin (P.device ports.old)
+        → Reaches origin (P.device ports.new) }
 {
     ports.read8(reg)
 }
@@ -26,6 +29,8 @@ pub(crate) fn is_free<P: Ports>(ports: &mut P) -> bool
     ensures free { result ≡ is_free (P.device ports.old).file }
     ensures unmoved { P.device ports.new ≡ P.device ports.old }
     ensures rest { P.rest ports.new ≡ P.rest ports.old }
+    ensures reached { (origin : Device) → Reaches origin (P.device ports.old)
+        → Reaches origin (P.device ports.new) }
 {
     let rests = shows_rest(ports);
     rests && !ports.pending()
@@ -36,6 +41,8 @@ fn shows_rest<P: Ports>(ports: &mut P) -> bool
     ensures rests { result ≡ shows_rest (P.device ports.old).file }
     ensures unmoved { P.device ports.new ≡ P.device ports.old }
     ensures rest { P.rest ports.new ≡ P.rest ports.old }
+    ensures reached { (origin : Device) → Reaches origin (P.device ports.old)
+        → Reaches origin (P.device ports.new) }
 {
     let status = peek(ports, Reg::Alternate);
     let device = peek(ports, Reg::Device);
@@ -49,6 +56,8 @@ pub(crate) fn bus_of<P: Ports>(ports: &mut P) -> Bus
     ensures bus { result ≡ (P.device ports.old).bus }
     ensures unmoved { P.device ports.new ≡ P.device ports.old }
     ensures rest { P.rest ports.new ≡ P.rest ports.old }
+    ensures reached { (origin : Device) → Reaches origin (P.device ports.old)
+        → Reaches origin (P.device ports.new) }
 {
     let command = peek(ports, Reg::BusCommand);
     let status = peek(ports, Reg::BusStatus);

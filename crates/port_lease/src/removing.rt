@@ -1,9 +1,10 @@
 //! The monitor goes.
 
 ghost use Rattle.std.specs.Prelude.{◌≡◌, ◌&&◌, true, false, is_ok, IfOk, IfErr};
-ghost use Rattle.ata_taskfile.specs.Device.{is_pending};
+ghost use Rattle.ata_taskfile.specs.Device.{Device, is_pending, line_read};
+ghost use Rattle.ata_taskfile.specs.Accesses.{Reaches};
 ghost use Rattle.port_lease.specs.View.{IsLawfulView};
-ghost use Rattle.port_lease.specs.Seen.{AnswersAlike, seen_of, seen_on_monitor_side};
+ghost use Rattle.port_lease.specs.Seen.{IsSame, AnswersAlike, seen_of, seen_on_monitor_side, bus_beside};
 ghost use Rattle.port_lease.specs.Sides.{view_held, has_own};
 ghost use Rattle.port_lease.specs.Handover.{after_remove, is_clean, shows_well};
 
@@ -22,7 +23,7 @@ pub struct Unclean;
 ///
 /// It is refused as Unclean exactly where the view isn't clean, or the drive doesn't show Status 50h and Error 00h.
 /// Then nothing changes, and the side comes back.
-#[tactic(auto, using(crate::proofs::Alike::remove_alike))]
+#[tactic(auto, using(crate::proofs::Alike::remove_bus, crate::proofs::Alike::remove_same, crate::proofs::Alike::remove_alike))]
 pub fn remove<P: Ports>(side: MonitorSide, ports: &mut P) -> Result<Gone, (MonitorSide, Unclean)>
     requires { IsLawfulView (view_held side) }
     ensures clean { is_ok result ≡ (is_clean (view_held side) (has_own side)
@@ -31,7 +32,13 @@ pub fn remove<P: Ports>(side: MonitorSide, ports: &mut P) -> Result<Gone, (Monit
     ensures drive { IfOk result
         (λ gone. P.device ports.new ≡ after_remove (view_held side) (P.device ports.old)) }
 
-    // Each next read of the guest's answers as before, and the line where no interrupt of the monitor's own pends.
+    // The guest has the same bus master, and where the line is low the same device. So each next read of its answers
+    // as before, and the line where no interrupt of the monitor's own pends.
+    ensures bus_seen { IfOk result (λ gone. (P.device ports.new).bus
+        ≡ bus_beside (view_held side).bus (P.device ports.old).bus) }
+    ensures same { line_read (P.device ports.old) ≡ false → IfOk result (λ gone. IsSame
+        (seen_on_monitor_side (view_held side) (P.device ports.old))
+        (seen_of (P.device ports.new))) }
     ensures reads { is_pending (P.device ports.old) ≡ false → IfOk result (λ gone. AnswersAlike
         (seen_on_monitor_side (view_held side) (P.device ports.old))
         (seen_of (P.device ports.new))) }
@@ -39,6 +46,8 @@ pub fn remove<P: Ports>(side: MonitorSide, ports: &mut P) -> Result<Gone, (Monit
     ensures back { IfErr result (λ e. e.0 ≡ side) }
     ensures unmoved { IfErr result (λ e. P.device ports.new ≡ P.device ports.old) }
     ensures rest { P.rest ports.new ≡ P.rest ports.old }
+    ensures reached { (origin : Device) → Reaches origin (P.device ports.old)
+        → Reaches origin (P.device ports.new) }
 {
     if !is_clean(&side.view, side.own) || !shows_well(ports) {
         return Err((side, Unclean));
@@ -55,6 +64,8 @@ fn restore<P: Ports>(view: &View, ports: &mut P)
     requires well { shows_well (P.device ports.old).file ≡ true }
     ensures drive { P.device ports.new ≡ after_remove view.now (P.device ports.old) }
     ensures rest { P.rest ports.new ≡ P.rest ports.old }
+    ensures reached { (origin : Device) → Reaches origin (P.device ports.old)
+        → Reaches origin (P.device ports.new) }
 {
     // An interrupt that pends here is none of the guest's.
     ports.read8(Reg::Status);
@@ -87,6 +98,8 @@ fn shows_well<P: Ports>(ports: &mut P) -> bool
     ensures well { result ≡ shows_well (P.device ports.old).file }
     ensures unmoved { P.device ports.new ≡ P.device ports.old }
     ensures rest { P.rest ports.new ≡ P.rest ports.old }
+    ensures reached { (origin : Device) → Reaches origin (P.device ports.old)
+        → Reaches origin (P.device ports.new) }
 {
     let status = peek(ports, Reg::Alternate);
     let error = peek(ports, Reg::Error);

@@ -1,10 +1,12 @@
 //! The monitor takes the drive.
 
 ghost use Rattle.std.specs.Prelude.{◌≡◌, true, false, is_ok, IfOk, IfErr};
+ghost use Rattle.ata_taskfile.specs.Device.{Device};
+ghost use Rattle.ata_taskfile.specs.Accesses.{Reaches};
 ghost use Rattle.ata_taskfile.specs.Lawful.{moved_by};
 ghost use Rattle.port_lease.specs.Free.{is_free};
 ghost use Rattle.port_lease.specs.View.{IsLawfulView, IsKept};
-ghost use Rattle.port_lease.specs.Seen.{AnswersAlike, seen_on_guest_side, seen_on_monitor_side, bus_on_guest_side};
+ghost use Rattle.port_lease.specs.Seen.{IsSame, AnswersAlike, seen_on_guest_side, seen_on_monitor_side, bus_on_guest_side};
 ghost use Rattle.port_lease.specs.Sides.{view_kept, view_held, has_own};
 ghost use Rattle.port_lease.specs.Handover.{after_take, shown_bytes};
 
@@ -38,7 +40,10 @@ pub fn take<P: Ports>(side: GuestSide, ports: &mut P) -> Result<MonitorSide, (Gu
     ensures alone { IfOk result (λ m. has_own m ≡ false) }
     ensures lawful { IfOk result (λ m. IsLawfulView (view_held m)) }
 
-    // Each next read of the guest's answers as before.
+    // The guest has the same device, so each next read of its answers as before.
+    ensures same { IfOk result (λ m. IsSame
+        (seen_on_guest_side (view_kept side) (P.device ports.old))
+        (seen_on_monitor_side (view_held m) (P.device ports.new))) }
     ensures reads { IfOk result (λ m. AnswersAlike
         (seen_on_guest_side (view_kept side) (P.device ports.old))
         (seen_on_monitor_side (view_held m) (P.device ports.new))) }
@@ -46,6 +51,8 @@ pub fn take<P: Ports>(side: GuestSide, ports: &mut P) -> Result<MonitorSide, (Gu
     ensures back { IfErr result (λ e. e.0 ≡ side) }
     ensures unmoved { IfErr result (λ e. P.device ports.new ≡ P.device ports.old) }
     ensures rest { P.rest ports.new ≡ P.rest ports.old }
+    ensures reached { (origin : Device) → Reaches origin (P.device ports.old)
+        → Reaches origin (P.device ports.new) }
 {
     if !is_free(ports) {
         return Err((side, Busy));
@@ -69,6 +76,8 @@ fn file_of<P: Ports>(kept: &TaskFile, ports: &mut P) -> TaskFile
         ≡ record (P.device ports.old).file { command = kept.now.command } }
     ensures unmoved { P.device ports.new ≡ P.device ports.old }
     ensures rest { P.rest ports.new ≡ P.rest ports.old }
+    ensures reached { (origin : Device) → Reaches origin (P.device ports.old)
+        → Reaches origin (P.device ports.new) }
 {
     put_control(ports, HOB);
     let [count1, low1, mid1, high1] = shown_bytes(ports);
@@ -96,6 +105,8 @@ fn shown_bytes<P: Ports>(ports: &mut P) -> [u8; 4]
     ensures bytes { result ≡ shown_bytes (P.device ports.old).file }
     ensures unmoved { P.device ports.new ≡ P.device ports.old }
     ensures rest { P.rest ports.new ≡ P.rest ports.old }
+    ensures reached { (origin : Device) → Reaches origin (P.device ports.old)
+        → Reaches origin (P.device ports.new) }
 {
     [
         peek(ports, Reg::Count),
@@ -111,6 +122,8 @@ fn bus_seen<P: Ports>(view: &View, ports: &mut P) -> Bus
     ensures bus { result ≡ bus_on_guest_side view.now (P.device ports.old).bus }
     ensures unmoved { P.device ports.new ≡ P.device ports.old }
     ensures rest { P.rest ports.new ≡ P.rest ports.old }
+    ensures reached { (origin : Device) → Reaches origin (P.device ports.old)
+        → Reaches origin (P.device ports.new) }
 {
     let drives = bus_of(ports);
     let error = view.bus.error || drives.error;

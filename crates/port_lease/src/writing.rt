@@ -6,7 +6,8 @@ ghost use Rattle.ata_taskfile.specs.declared.registers.TheConstants.{SRST, CONTR
 ghost use Rattle.ata_taskfile.specs.TaskFile.{has_bit, stored};
 ghost use Rattle.ata_taskfile.specs.Order.{inputs, order_of, taken};
 ghost use Rattle.ata_taskfile.specs.Bus.{bit_shown};
-ghost use Rattle.ata_taskfile.specs.Device.{with_bus};
+ghost use Rattle.ata_taskfile.specs.Device.{Device, with_bus};
+ghost use Rattle.ata_taskfile.specs.Accesses.{Reaches};
 ghost use Rattle.port_lease.specs.Handover.{after_take};
 ghost use Rattle.port_lease.specs.Writing.{is_plain_register, plainly_written, with_registers, IsAtRest, bus_put, bus_started};
 
@@ -18,6 +19,8 @@ use ata_taskfile::{Bus, Ports, Reg, TaskFile};
 pub(crate) fn stop_walk<P: Ports>(ports: &mut P)
     ensures stopped { P.device ports.new ≡ after_take (P.device ports.old) }
     ensures rest { P.rest ports.new ≡ P.rest ports.old }
+    ensures reached { (origin : Device) → Reaches origin (P.device ports.old)
+        → Reaches origin (P.device ports.new) }
 {
     let command = peek(ports, Reg::BusCommand);
     ports.write8(Reg::BusCommand, command & !START);
@@ -32,6 +35,8 @@ pub fn put_control<P: Ports>(ports: &mut P, v: u8)
         P.device ports.new
         ≡ record d { file = record d.file { control = bit_and v CONTROL_BITS } } }
     ensures rest { P.rest ports.new ≡ P.rest ports.old }
+    ensures reached { (origin : Device) → Reaches origin (P.device ports.old)
+        → Reaches origin (P.device ports.new) }
 {
     ports.write8(Reg::Alternate, v);
 }
@@ -44,6 +49,8 @@ pub fn put_register<P: Ports>(ports: &mut P, reg: Reg, v: u8)
     requires plain { is_plain_register reg ≡ true }
     ensures put { P.device ports.new ≡ plainly_written reg v (P.device ports.old) }
     ensures rest { P.rest ports.new ≡ P.rest ports.old }
+    ensures reached { (origin : Device) → Reaches origin (P.device ports.old)
+        → Reaches origin (P.device ports.new) }
 {
     ports.write8(reg, v);
 }
@@ -57,6 +64,8 @@ fn put_both<P: Ports>(ports: &mut P, reg: Reg, bytes: [u8; 2])
           file = stored reg (slice_index bytes 0) (stored reg (slice_index bytes 1) d.file);
         } }
     ensures rest { P.rest ports.new ≡ P.rest ports.old }
+    ensures reached { (origin : Device) → Reaches origin (P.device ports.old)
+        → Reaches origin (P.device ports.new) }
 {
     put_register(ports, reg, bytes[1]);
     put_register(ports, reg, bytes[0]);
@@ -68,6 +77,8 @@ pub(crate) fn put_registers<P: Ports>(ports: &mut P, file: &TaskFile)
     ensures put { let d = P.device ports.old in
         P.device ports.new ≡ record d { file = with_registers file.now d.file } }
     ensures rest { P.rest ports.new ≡ P.rest ports.old }
+    ensures reached { (origin : Device) → Reaches origin (P.device ports.old)
+        → Reaches origin (P.device ports.new) }
 {
     put_register(ports, Reg::Error, file.features);
     put_both(ports, Reg::Count, file.count);
@@ -91,6 +102,8 @@ pub fn put_command<P: Ports>(ports: &mut P, command: u8)
       };
     } }
     ensures rest { P.rest ports.new ≡ P.rest ports.old }
+    ensures reached { (origin : Device) → Reaches origin (P.device ports.old)
+        → Reaches origin (P.device ports.new) }
 {
     ports.write8(Reg::Status, command);
 }
@@ -101,6 +114,8 @@ pub(crate) fn put_bus<P: Ports>(ports: &mut P, bus: &Bus)
     ensures put { let d = P.device ports.old in
         P.device ports.new ≡ with_bus (bus_put bus.now d.bus) d }
     ensures rest { P.rest ports.new ≡ P.rest ports.old }
+    ensures reached { (origin : Device) → Reaches origin (P.device ports.old)
+        → Reaches origin (P.device ports.new) }
 {
     ports.write8(Reg::BusCommand, direction(bus));
     ports.write_pointer(bus.pointer);
@@ -112,6 +127,8 @@ pub(crate) fn start_bus<P: Ports>(ports: &mut P, bus: &Bus)
     ensures put { let d = P.device ports.old in
         P.device ports.new ≡ with_bus (bus_started bus.now d.bus) d }
     ensures rest { P.rest ports.new ≡ P.rest ports.old }
+    ensures reached { (origin : Device) → Reaches origin (P.device ports.old)
+        → Reaches origin (P.device ports.new) }
 {
     put_bus(ports, bus);
     ports.write8(Reg::BusCommand, direction(bus) | START);
