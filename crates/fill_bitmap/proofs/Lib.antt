@@ -1,3 +1,4 @@
+pub mod Counts
 pub mod Sectors
 pub mod Bytes
 pub mod Outside

@@ -1,5 +1,5 @@
 -- A set of blocks: a truth value for every block of the image.
-use Rattle.std.specs.Prelude.{ℕ, ◌≡◌, ◌<◌, ◌+◌, ◌==◌, Bool, true, false, not, ◌&&◌, ◌||◌, Option, List, length, map, drop, replicate, position, slice_index_or}
+use Rattle.std.specs.Prelude.{ℕ, ◌≡◌, ◌<◌, ◌+◌, ◌==◌, Bool, true, false, not, ◌&&◌, ◌||◌, Option, List, [], ◌∷◌, length, map, drop, replicate, position, slice_index_or}
 use Rattle.std.specs.List.{range_with_len}
 use Rattle.std.specs.Option.{option_or, option_map}
 use Rattle.fill_bitmap.specs.Bits.{has_bit, sector_with_bit}
@@ -7,6 +7,12 @@ use Rattle.fill_bitmap.specs.Bits.{has_bit, sector_with_bit}
 -- whether a set has the block; none has one past the last
 abbrev pub has : List Bool → ℕ → Bool
 has set b = slice_index_or set b false
+
+-- how many blocks a set has
+abbrev pub held_in : List Bool → ℕ
+held_in [] = 0
+held_in (true ∷ set) = 1 + held_in set
+held_in (false ∷ set) = held_in set
 
 -- a set of none of so many blocks
 abbrev pub empty_set : ℕ → List Bool

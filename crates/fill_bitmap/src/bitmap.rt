@@ -135,7 +135,7 @@ impl Bitmap {
         ensures answer { IsTrue result ↔ (self.now.filled ≡ self.now.stored) }
         ensures nested { IsNested self.now }
     {
-        self.filled.is_same(&self.stored)
+        self.filled.held() == self.stored.held()
     }
 
     /// The frozen blocks are from now on those that are filled now.

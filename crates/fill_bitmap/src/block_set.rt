@@ -2,7 +2,7 @@
 
 ghost use Rattle.std.specs.Prelude.{◌≡◌, ◌<◌, ◌≤◌, ◌*◌, ◌^◌, ◌↔◌, true, not, length, position, slice_set, IfOk, IfSome, IsTrue};
 ghost use Rattle.fill_bitmap.specs.Bits.{has_bit, byte_from, sector_of};
-ghost use Rattle.fill_bitmap.specs.BlockSet.{IsWhole, has, empty_set, with_sector, first_outside, next_outside};
+ghost use Rattle.fill_bitmap.specs.BlockSet.{IsWhole, has, held_in, empty_set, with_sector, first_outside, next_outside};
 
 use crate::area::BLOCKS_OF_SECTOR;
 use crate::lengths::SECTOR_BYTES;
@@ -12,37 +12,44 @@ use std::marker::Model;
 // How many blocks have their bits in one sector, to count by.
 const SECTOR_BITS: usize = BLOCKS_OF_SECTOR as usize;
 
-// A truth value for every block of an image: whether the set has it.
+// A truth value for every block of an image: whether the set has it. The blocks that it has are counted.
 #[derive(Drop)]
 pub(crate) struct BlockSet {
     blocks: Vec<bool>,
+    held: u32,
 }
 
 impl Model for BlockSet {
-    ghost use Rattle.std.specs.Prelude.{Bool, List, ◌<◌, ◌^◌, length};
+    ghost use Rattle.std.specs.Prelude.{Bool, List, ◌≡◌, ◌<◌, ◌^◌, length};
+    ghost use Rattle.fill_bitmap.specs.BlockSet.{held_in};
 
     ghost Value = { List Bool };
 
     ghost view = { λ a. a.blocks.items };
 
-    ghost invariant = { λ a. length a.blocks.items < 2 ^ 32 };
+    ghost invariant = { λ a. (length a.blocks.items < 2 ^ 32)
+        × (a.held ≡ held_in a.blocks.items) };
 }
 
 impl BlockSet {
     // A set of none of so many blocks. It fails only for want of memory.
+    #[tactic(auto, using(crate::proofs::Counts::held_none))]
     pub(crate) fn none(alloc: Global, blocks: u32) -> Result<BlockSet, AllocError>
         ensures empty { IfOk result (λ set. set ≡ empty_set blocks) }
     {
         Ok(BlockSet {
             blocks: vec![in alloc; false; blocks as usize]?,
+            held: 0,
         })
     }
 
     // Takes every block out.
+    #[tactic(auto, using(crate::proofs::Counts::held_none))]
     pub(crate) fn clear(&mut self)
         ensures empty { self.new ≡ empty_set (length self.old) }
     {
         self.blocks.fill(false);
+        self.held = 0;
     }
 
     // Takes the blocks of another set in place of its own.
@@ -51,13 +58,35 @@ impl BlockSet {
         ensures copied { self.new ≡ other.now }
     {
         self.blocks.copy_from_slice(&other.blocks);
+        self.held = other.held;
     }
 
     pub(crate) fn insert(&mut self, b: u32)
         requires { b < length self.old }
         ensures inserted { self.new ≡ slice_set self.old b true }
     {
+        self.held = self.held_with(b);
         self.blocks[b as usize] = true;
+    }
+
+    // How many blocks the set has once `b` is among them: one more exactly where it lacks this one.
+    #[tactic(auto, using(crate::proofs::Counts::held_room, crate::proofs::Counts::held_again, crate::proofs::Counts::held_more))]
+    fn held_with(&self, b: u32) -> u32
+        requires { b < length self.now }
+        ensures count { result ≡ held_in (slice_set self.now b true) }
+    {
+        if self.has(b) {
+            self.held
+        } else {
+            self.held + 1
+        }
+    }
+
+    // How many blocks the set has.
+    pub(crate) fn held(&self) -> u32
+        ensures count { result ≡ held_in self.now }
+    {
+        self.held
     }
 
     pub(crate) fn has(&self, b: u32) -> bool
@@ -67,17 +96,11 @@ impl BlockSet {
         self.blocks[b as usize]
     }
 
+    #[tactic(auto, using(crate::proofs::Counts::whole_by_count))]
     pub(crate) fn is_whole(&self) -> bool
         ensures answer { IsTrue result ↔ IsWhole self.now }
     {
-        self.blocks.iter().all(|held| *held)
-    }
-
-    // Whether another set has the same blocks.
-    pub(crate) fn is_same(&self, other: &BlockSet) -> bool
-        ensures answer { IsTrue result ↔ (self.now ≡ other.now) }
-    {
-        self.blocks == other.blocks
+        self.held as usize == self.blocks.len()
     }
 
     // The first block from `b` on that the set lacks, else the first from 0 on.
@@ -98,7 +121,9 @@ impl BlockSet {
         let first = k as usize * SECTOR_BITS;
         let end = self.blocks.len().min(first + SECTOR_BITS);
         for b in first..end {
-            self.blocks[b] = self.blocks[b] || is_bit_set(sector, b);
+            if is_bit_set(sector, b) {
+                self.insert(b as u32);
+            }
         }
     }
 

@@ -1,11 +1,18 @@
-//! Laws that show what the definitions of `specs/Disk.antt` mean. Each holds of every value, and no code runs.
+//! Laws that show what the definitions of `specs/Area.antt` and `specs/Disk.antt` mean. Each holds of every value, and
+//! no code runs.
 
-ghost use Rattle.std.specs.Prelude.{◌≡◌, ◌++◌, ℕ, Bool, List, length, take, drop};
+ghost use Rattle.std.specs.Prelude.{◌≡◌, ◌<◌, ◌≤◌, ◌+◌, ◌*◌, ◌++◌, ℕ, Bool, List, length, take, drop};
 ghost use Rattle.fill_bitmap.specs.declared.area.Area.{Area};
 ghost use Rattle.fill_bitmap.specs.declared.lengths.TheConstants.{SECTOR_BYTES};
 ghost use Rattle.fill_bitmap.specs.Area.{IsSuitable, blocks_of, bitmap_sectors_of, reserved_of};
 ghost use Rattle.fill_bitmap.specs.BlockSet.{empty_set};
 ghost use Rattle.fill_bitmap.specs.Disk.{header_of, HasHeader, stored_blocks, with_sectors, guest_view, HoldsSet, HaveLengths};
+
+/// The sectors of each block lie in the image.
+pub fn blocks_lie_in_the_image()
+    ensures { (area : Area) (b : ℕ) →
+        b < blocks_of area → b * area.block + area.block ≤ area.image }
+{}
 
 /// A header is as long as a sector, whatever the area and the run.
 pub fn a_header_is_a_sector()

@@ -22,6 +22,6 @@ pub use area::{Area, BLOCKS_OF_SECTOR, MOST_SECTORS};
 pub use bitmap::Bitmap;
 pub use laws::{
     a_fresh_disk_shows_the_image, a_header_is_a_sector, added_sectors_give_the_stored_blocks,
-    written_sectors_store_their_set,
+    blocks_lie_in_the_image, written_sectors_store_their_set,
 };
 pub use lengths::{SECTOR_BYTES, Unsuitable, area_of};

@@ -314,3 +314,90 @@ fn a_block_filled_after_the_freeze(rt: HostRuntime) -> Result<(), Fail> {
     );
     Ok(())
 }
+
+// What is done with a bitmap of three blocks: one is filled, the bits of a byte are added, or one of the other calls.
+#[derive(Clone, Copy)]
+enum Act {
+    Fill(u32),
+    Load(u8),
+    Freeze,
+    Store,
+    Clear,
+}
+
+fn done(bitmap: &mut Bitmap, act: Act)
+    requires { blocks_in bitmap.old ≡ 3 }
+    ensures { blocks_in bitmap.new ≡ 3 }
+{
+    match act {
+        Act::Fill(b) => {
+            if b < 3 {
+                bitmap.fill(b);
+            }
+        }
+        Act::Load(byte) => bitmap.load(0, &sector_with([0, 0], [byte, byte])),
+        Act::Freeze => bitmap.freeze(),
+        Act::Store => bitmap.store_frozen(),
+        Act::Clear => bitmap.clear(),
+    }
+}
+
+// Whether all blocks are filled, whether all are stored, and whether these are the same, behind four acts.
+fn counted(alloc: Global, acts: [Act; 4]) -> Result<[bool; 3], AllocError> {
+    let mut bitmap = Bitmap::new(alloc, 3)?;
+    let [first, second, third, last] = acts;
+    done(&mut bitmap, first);
+    done(&mut bitmap, second);
+    done(&mut bitmap, third);
+    done(&mut bitmap, last);
+    Ok([
+        bitmap.all_filled(),
+        bitmap.all_stored(),
+        bitmap.filled_is_stored(),
+    ])
+}
+
+#[test]
+fn blocks_are_counted_once(rt: HostRuntime) -> Result<(), Fail> {
+    use Act::{Clear, Fill, Freeze, Load, Store};
+    // Acts, and behind them the filled and the stored blocks of 0, 1, 2, from which the three answers follow.
+    let cases = [
+        // 0 1; none.
+        ([Fill(0), Fill(0), Fill(1), Freeze], [false, false, false]),
+        // 0 1 2; none.
+        ([Fill(0), Fill(1), Fill(2), Fill(2)], [true, false, false]),
+        // 0 1 2; 0 1 2.
+        (
+            [Load(0x03), Load(0x05), Fill(1), Freeze],
+            [true, true, true],
+        ),
+        // 0 1; 0 1.
+        (
+            [Load(0x03), Load(0x03), Freeze, Store],
+            [false, false, true],
+        ),
+        // 0; 0.
+        ([Fill(0), Load(0x01), Freeze, Store], [false, false, true]),
+        // 0 1 2; 1.
+        ([Fill(0), Load(0x02), Fill(2), Freeze], [true, false, false]),
+        // 0 1; 0.
+        ([Fill(0), Freeze, Fill(1), Store], [false, false, false]),
+        // 0; none.
+        ([Load(0x07), Clear, Fill(0), Freeze], [false, false, false]),
+        // None; none.
+        ([Load(0x07), Clear, Freeze, Store], [false, false, true]),
+        // 0 1 2; 0 1 2. A byte has bits for more blocks than there are.
+        ([Load(0xff), Freeze, Store, Fill(1)], [true, true, true]),
+        // 0 1; 0. Bits are added to the frozen blocks too.
+        ([Freeze, Load(0x01), Fill(1), Store], [false, false, false]),
+        // 0 1 2; 1 2.
+        (
+            [Fill(0), Fill(1), Load(0x06), Fill(0)],
+            [true, false, false],
+        ),
+    ];
+    for (i, (acts, wanted)) in cases.into_iter().enumerate() {
+        assert_eq!(rt; counted(rt.alloc(), acts)?, wanted, "{i}");
+    }
+    Ok(())
+}
