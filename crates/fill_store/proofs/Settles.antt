@@ -1,6 +1,7 @@
 -- What stands on the drive while a settling goes on.
 use Rattle.std.proofs.Common.{◌≡◌, ℕ, ◌+◌, ◌<◌, Bool, true, false, Option, Some, None, unwrap_or, List, [], arith, refl, sym, ◌∙◌, inl, inr}
 use Rattle.std.proofs.Math.Path.{subst}
+use Rattle.std.proofs.lemmas.List.{length-set}
 use Rattle.ata_taskfile.specs.Device.{Cell}
 use Rattle.plain_drive.specs.Plain.{appended, all_flushed}
 use Rattle.own_pio.specs.declared.job.OwnJob.{OwnJob}
@@ -8,7 +9,7 @@ use Rattle.own_pio.specs.declared.job.OwnJob.TheVariants.{Write}
 use Rattle.fill_bitmap.specs.declared.area.Area.{Area}
 use Rattle.fill_bitmap.specs.Area.{blocks_of, bitmap_sectors_of, reserved_of, sector_of_bits}
 use Rattle.fill_bitmap.specs.Bits.{sector_of}
-use Rattle.fill_bitmap.specs.Bitmap.{Sets, IsNested, blocks_in, frozen_now, frozen_stored}
+use Rattle.fill_bitmap.specs.Bitmap.{Sets, IsNested, blocks_in, with_filled, frozen_now, frozen_stored}
 use Rattle.fill_bitmap.specs.BlockSet.{IsWithin}
 use Rattle.fill_store.specs.declared.settle.SettleStep.{SettleStep}
 use Rattle.fill_store.specs.declared.settle.SettleStep.TheVariants.{FlushData, WriteBits, FlushBits, Nothing}
@@ -16,6 +17,7 @@ use Rattle.plain_drive.specs.Cells.{ForgetsOld}
 use Rattle.fill_store.specs.Cells.{MadeBy, KeepsBits}
 use Rattle.fill_store.specs.Settle.{SettleState, settle_of, IsReached, job_at, bytes_at, next_in_settling, bytes_to_settle, bits_from, step_after, sets_behind, settle_after, sets_after_settling}
 use Rattle.fill_store.specs.SettleCells.{HasFrozen, HoldsAt, MadeBySettling, Settles, durable_behind, durable_after}
+use Rattle.fill_bitmap.proofs.Nested.{filled_nested}
 use Rattle.fill_store.proofs.Values.{flush_forgets, on_test}
 use Rattle.fill_store.proofs.Keeps.{bits_forget, bits_elsewhere, bits_stand, one_more, keeps_forgets, keeps_elsewhere, keeps_written, keeps_frozen, keeps_more}
 
@@ -251,3 +253,27 @@ pub settles_bits : (id : ℕ) (durable : List Bool) (s : SettleState) (sets : Se
     → Settles id durable s sets cells → next_in_settling s ≡ Some (Write sector count) → durable ≡ sets.frozen
 settles_bits id durable s sets cells sector count settles next =
     bits_written s.area durable s.step sets cells sector count settles.step next
+
+-- a settling's step looks at the frozen blocks, and not at the filled ones
+holds_filled : (area : Area) (durable : List Bool) (step : SettleStep) (sets : Sets) (cells : List Cell) (b : ℕ)
+    → HoldsAt area durable step sets cells → HoldsAt area durable step (with_filled b sets) cells
+holds_filled area durable FlushData sets cells b holds = holds
+holds_filled area durable (WriteBits k) sets cells b holds = holds
+holds_filled area durable FlushBits sets cells b holds = holds
+holds_filled area durable Nothing sets cells b holds = holds
+
+-- a settling stands where a block is filled
+pub settles_filled : (id : ℕ) (durable : List Bool) (s : SettleState) (sets : Sets) (cells : List Cell) (b : ℕ)
+    → b < blocks_in sets → Settles id durable s sets cells → Settles id durable s (with_filled b sets) cells
+settles_filled id durable s sets cells b inside settles = record {
+  nested = filled_nested b sets inside settles.nested;
+  blocks = length-set sets.filled b true ∙ settles.blocks;
+  kept = settles.kept;
+  step = holds_filled s.area durable s.step sets cells b settles.step;
+}
+
+-- a settling's durable blocks are filled
+pub settles_within : (id : ℕ) (durable : List Bool) (s : SettleState) (sets : Sets) (cells : List Cell)
+    → Settles id durable s sets cells → IsWithin durable sets.filled
+settles_within id durable s sets cells settles b held =
+    settles.nested.frozen_filled b (within_frozen s.area durable s.step sets cells settles.step b held)

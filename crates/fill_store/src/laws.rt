@@ -5,10 +5,11 @@ ghost use Rattle.std.specs.Prelude.{◌≡◌, ◌<◌, ℕ, Bool, List, length,
 ghost use Rattle.ata_taskfile.specs.Device.{Cell};
 ghost use Rattle.plain_drive.specs.Plain.{current, stored, appended, all_flushed};
 ghost use Rattle.plain_drive.specs.Cut.{IsOutcome};
+ghost use Rattle.plain_drive.specs.Physical.{AreEndsOf};
 ghost use Rattle.own_pio.specs.declared.job.OwnJob.TheVariants.{Write};
 ghost use Rattle.fill_bitmap.specs.declared.area.Area.{Area};
 ghost use Rattle.fill_bitmap.specs.Area.{IsSuitable, blocks_of, bitmap_sectors_of, reserved_of};
-ghost use Rattle.fill_bitmap.specs.Bitmap.{Sets, IsNested, blocks_in, empty_sets, frozen_now};
+ghost use Rattle.fill_bitmap.specs.Bitmap.{Sets, IsNested, blocks_in, empty_sets, with_filled, frozen_now};
 ghost use Rattle.fill_bitmap.specs.BlockSet.{IsWithin};
 ghost use Rattle.fill_bitmap.specs.Disk.{HasHeader, header_of, sector_at, bitmap_sector, stored_blocks, guest_view};
 ghost use Rattle.fill_store.specs.Sectors.{zero_bits};
@@ -19,7 +20,7 @@ ghost use Rattle.fill_store.specs.OpeningCells.{IsEither, HasOnlyZeros, Opens, M
 ghost use Rattle.fill_store.specs.Settle.{SettleState, settle_of, next_in_settling};
 ghost use Rattle.fill_store.specs.SettleCells.{Settles, MadeBySettling};
 
-use plain_drive::current_values_are_an_outcome;
+use plain_drive::{current_values_are_an_outcome, ends_forget_older_values};
 
 /// An opening begins at power-on, with the drive's durable sectors and a bitmap without a block.
 pub fn an_opening_begins_at_power_on()
@@ -29,14 +30,18 @@ pub fn an_opening_begins_at_power_on()
 {}
 
 /// An opening stands while its job is in hand, whether the drive has made it or not, and where older values of sectors
-/// are forgotten because newer ones became durable.
+/// are forgotten because newer ones became durable, as where a drive's cells hold the newest values of others alone.
 pub fn an_opening_stands_between_its_jobs()
     ensures in_hand { (disk : List (List ℕ)) (o : OpeningState) (buffer : List ℕ) (sets : Sets)
         (old new : List Cell) → Opens disk o sets old → MadeByOpening false o buffer old new →
         Opens disk o sets new }
     ensures forgotten { (disk : List (List ℕ)) (o : OpeningState) (sets : Sets)
         (old new : List Cell) → Opens disk o sets old → ForgetsOld old new → Opens disk o sets new }
-{}
+    ensures ends { (disk : List (List ℕ)) (o : OpeningState) (sets : Sets)
+        (old new : List Cell) → Opens disk o sets old → AreEndsOf new old → Opens disk o sets new }
+{
+    ends_forget_older_values();
+}
 
 /// The header is written only once the zeros are durable: a cut then leaves nothing else of the bitmap.
 pub fn the_header_is_written_behind_durable_zeros()
@@ -96,7 +101,8 @@ pub fn a_settling_begins_with_the_filled_blocks()
 {}
 
 /// A settling stands while its job is in hand, whether the drive has made it or not, where older values of sectors are
-/// forgotten because newer ones became durable, and where a sector below the reserved ones is written.
+/// forgotten because newer ones became durable, as where a drive's cells hold the newest values of others alone, and
+/// where a sector below the reserved ones is written.
 pub fn a_settling_stands_between_its_jobs()
     ensures in_hand { (id : ℕ) (durable : List Bool) (s : SettleState) (sets : Sets)
         (old new : List Cell) → Settles id durable s sets old
@@ -105,9 +111,32 @@ pub fn a_settling_stands_between_its_jobs()
     ensures forgotten { (id : ℕ) (durable : List Bool) (s : SettleState) (sets : Sets)
         (old new : List Cell) → Settles id durable s sets old → ForgetsOld old new →
         Settles id durable s sets new }
+    ensures ends { (id : ℕ) (durable : List Bool) (s : SettleState) (sets : Sets)
+        (old new : List Cell) → Settles id durable s sets old → AreEndsOf new old →
+        Settles id durable s sets new }
     ensures elsewhere { (id : ℕ) (durable : List Bool) (s : SettleState) (sets : Sets)
         (sector : ℕ) (bytes : List ℕ) (cells : List Cell) → Settles id durable s sets cells →
         sector < reserved_of s.area → Settles id durable s sets (appended sector bytes cells) }
+{
+    ends_forget_older_values();
+}
+
+/// A block that is filled during a settling leaves it as it is: the frozen blocks are written, and this one waits for
+/// the next settling.
+pub fn a_fill_keeps_a_settling()
+    ensures { (id : ℕ) (durable : List Bool) (s : SettleState) (sets : Sets) (cells : List Cell)
+        (b : ℕ) → b < blocks_in sets → Settles id durable s sets cells →
+        Settles id durable s (with_filled b sets) cells }
+{}
+
+/// A settling may be dropped at any step. What a cut leaves of header and bitmap stays between its sets, and each block
+/// whose data is durable is filled, so that the next settling may begin.
+pub fn a_settling_may_be_dropped()
+    ensures kept { (id : ℕ) (durable : List Bool) (s : SettleState) (sets : Sets)
+        (cells : List Cell) → Settles id durable s sets cells →
+        KeepsBits s.area id sets.stored durable cells }
+    ensures filled { (id : ℕ) (durable : List Bool) (s : SettleState) (sets : Sets)
+        (cells : List Cell) → Settles id durable s sets cells → IsWithin durable sets.filled }
 {}
 
 /// Bits are written only once the first flush was done, so that the data of each frozen block is durable.
@@ -145,15 +174,19 @@ pub fn a_cut_stores_between_the_sets()
         stored_blocks area id outcome ≡ set }
 {}
 
-/// What a cut leaves of header and bitmap stays between its sets where older values of sectors are forgotten, and where
-/// a sector below the reserved ones is written.
+/// What a cut leaves of header and bitmap stays between its sets where older values of sectors are forgotten, as where
+/// a drive's cells hold the newest values of others alone, and where a sector below the reserved ones is written.
 pub fn kept_bits_stand()
     ensures forgotten { (area : Area) (id : ℕ) (least most : List Bool) (old new : List Cell) →
         KeepsBits area id least most old → ForgetsOld old new → KeepsBits area id least most new }
+    ensures ends { (area : Area) (id : ℕ) (least most : List Bool) (old new : List Cell) →
+        KeepsBits area id least most old → AreEndsOf new old → KeepsBits area id least most new }
     ensures elsewhere { (area : Area) (id : ℕ) (least most : List Bool) (sector : ℕ)
         (bytes : List ℕ) (cells : List Cell) → KeepsBits area id least most cells →
         sector < reserved_of area → KeepsBits area id least most (appended sector bytes cells) }
-{}
+{
+    ends_forget_older_values();
+}
 
 /// A flush forgets the older values of every sector, and leaves the newest one alone.
 pub fn a_flush_leaves_the_newest_values()

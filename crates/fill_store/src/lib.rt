@@ -22,7 +22,8 @@ pub use header_bytes::header;
 pub use laws::{
     a_cut_in_a_settling_stores_durable_blocks, a_cut_in_an_opening_leaves_old_or_new,
     a_cut_in_an_opening_stores_what_was_stored, a_cut_stores_between_the_sets,
-    a_flush_leaves_the_newest_values, a_settling_begins_with_the_filled_blocks,
+    a_fill_keeps_a_settling, a_flush_leaves_the_newest_values,
+    a_settling_begins_with_the_filled_blocks, a_settling_may_be_dropped,
     a_settling_stands_between_its_jobs, an_ended_opening_has_the_stored_blocks,
     an_opening_begins_at_power_on, an_opening_stands_between_its_jobs,
     bits_are_written_behind_durable_data, kept_bits_stand,
