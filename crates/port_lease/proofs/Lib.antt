@@ -5,3 +5,4 @@ pub mod Guest
 pub mod Steps
 pub mod Whole
 pub mod GuestSteps
+pub mod Resting

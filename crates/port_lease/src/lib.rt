@@ -25,8 +25,12 @@ mod writing;
 pub use giving::give;
 pub use gone::Gone;
 pub use guest_side::GuestSide;
-pub use laws::{steps_are_the_guests, steps_keep_what_is_kept, steps_leave_a_free_drive};
+pub use laws::{
+    commands_are_taken_at_rest, steps_are_the_guests, steps_keep_what_is_kept,
+    steps_leave_a_free_drive,
+};
 pub use monitor_side::{MonitorSide, power_on};
+pub use reading::shows_rest;
 pub use removing::{Unclean, remove};
 pub use taking::{Busy, take};
 pub use view::View;

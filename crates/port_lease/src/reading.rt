@@ -36,8 +36,9 @@ pub(crate) fn is_free<P: Ports>(ports: &mut P) -> bool
     rests && !ports.pending()
 }
 
-// Whether the drive shows neither BSY nor DRQ nor DEV.
-fn shows_rest<P: Ports>(ports: &mut P) -> bool
+/// Whether the drive shows neither BSY nor DRQ nor DEV, which is exactly when it takes a command. It leaves no trace
+/// there, and either side may ask it.
+pub fn shows_rest<P: Ports>(ports: &mut P) -> bool
     ensures rests { result ≡ shows_rest (P.device ports.old).file }
     ensures unmoved { P.device ports.new ≡ P.device ports.old }
     ensures rest { P.rest ports.new ≡ P.rest ports.old }
