@@ -3,7 +3,7 @@ use Rattle.std.specs.Prelude.{ℕ, ◌≡◌, ◌<◌, List, All, length}
 use Rattle.ata_taskfile.specs.declared.registers.TheConstants.{SECTOR_BYTES}
 use Rattle.ata_taskfile.specs.Device.{Cell, Device}
 
--- each is a byte
+-- each of these numbers is a byte
 abbrev pub AreBytes : List ℕ → Type 0
 AreBytes numbers = All (λ number. number < 256) numbers
 
@@ -17,6 +17,6 @@ pub record HoldsSector (cell : Cell) : Type 0 where
   pub durable : IsSector cell.durable
   pub written : All IsSector cell.written
 
--- so is each value that the cells of a device hold (own)
+-- each value that the cells of a device hold is a sector's (own)
 abbrev pub HoldsSectors : Device → Type 0
 HoldsSectors d = All HoldsSector d.cells

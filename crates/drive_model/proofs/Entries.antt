@@ -24,7 +24,7 @@ taken_at_within count k entries within =
 pub taken_at_whole : (k : ℕ) (entries : List Entry) → AreSectors entries → AreSectors (taken_at k entries)
 taken_at_whole k entries whole = taken_all (λ entry. IsSector entry.bytes) k entries (slice_get entries k) whole
 
--- and of each where one is written, if it does of that
+-- what holds of each entry, and of one that is written, holds of each entry then
 written_all : (P : Entry → Type 0) (full : Bool) (entries : List Entry) (entry : Entry) → P entry → All P entries
     → All P ((if full then drop 1 entries else entries) ++ entry ∷ [])
 written_all P true entries entry here all = All-push P (drop 1 entries) entry (All-drop P 1 entries all) here

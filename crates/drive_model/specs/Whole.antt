@@ -16,7 +16,7 @@ all_reversed P [] all = all
 all_reversed P (x ∷ xs) all = subst (All P) (sym (reverse_onto xs x []))
     (All-push P (reverse xs) x (all_reversed P xs (All-tail P x xs all)) (All-head P x xs all))
 
--- those that its entries give a sector
+-- the values that entries of sectors give a sector are a sector's
 values_whole : (sector : ℕ) (entries : List Entry) → AreSectors entries → All IsSector (values_of sector entries)
 values_whole sector entries whole =
     let bytes : Entry → List ℕ = λ entry. entry.bytes in

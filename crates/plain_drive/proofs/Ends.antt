@@ -158,7 +158,7 @@ addressed-control true sector f = refl
 shown-control : (order : Request) (done : ℕ) (f : TaskFile) → (failure_shown order done f).control ≡ f.control
 shown-control order done f = grind (arith, addressed-control)
 
--- and two bytes in each two-byte register
+-- the sector that is shown leaves two bytes in each two-byte register
 addressed-pairs : (extended : Bool) (sector : ℕ) (f : TaskFile) → HasTwoBytes f
     → HasTwoBytes (addressed extended sector f)
 addressed-pairs false sector f two = record { count = two.count; low = refl; mid = refl; high = refl }

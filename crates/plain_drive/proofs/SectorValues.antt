@@ -18,14 +18,14 @@ newest_held : (durable : List ℕ) (written : List (List ℕ)) → IsSector dura
 newest_held durable [] is all = is
 newest_held durable (value ∷ written) is all = all 0 durable (omega arith)
 
--- and the current one of each sector
+-- the current value of each sector is a sector's
 pub current_held : (s : ℕ) (d : Device) → HoldsSectors d → s < length d.cells → IsSector (sector_value s d)
 current_held s d holds below =
     let cell = slice_index_or d.cells s (settled []) in
     let h : HoldsSector cell = holds s (settled []) below in
     newest_held cell.durable cell.written h.durable h.written
 
--- the first two bytes, and the others
+-- of bytes the first two are bytes, and so are the others
 first_byte : (x y : ℕ) (rest : List ℕ) → AreBytes (x ∷ y ∷ rest) → x < 256
 first_byte x y rest small = small 0 0 (omega arith)
 
@@ -64,7 +64,7 @@ pub words_back : (words : List ℕ) → words_of (bytes_of words) ≡ words
 words_back [] = refl
 words_back (w ∷ words) = let here = word_back w in let more = words_back words in rw (here, more) refl
 
--- words in bytes
+-- words of 16 bits give bytes
 words_are_bytes : (words : List ℕ) → AreWords words → AreBytes (bytes_of words)
 words_are_bytes [] small = All-nil (λ number. number < 256)
 words_are_bytes (w ∷ words) small =
@@ -80,7 +80,7 @@ block_is_sector words small whole = record {
   bytes = words_are_bytes words small;
 }
 
--- bytes in words
+-- bytes give words of 16 bits
 pub bytes_are_words : (bytes : List ℕ) → AreBytes bytes → AreWords (words_of bytes)
 bytes_are_words [] small = All-nil (λ number. number < 65536)
 bytes_are_words (x ∷ []) small = All-nil (λ number. number < 65536)

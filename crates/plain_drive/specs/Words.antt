@@ -22,6 +22,6 @@ after_written (w ∷ words) d = after_written words (after_write_word w d)
 abbrev pub bytes_of : List ℕ → List ℕ
 bytes_of words = flat_map (λ word. (word % 256) ∷ (word / 256) ∷ []) words
 
--- each is a word of 16 bits
+-- each of these numbers is a word of 16 bits
 abbrev pub AreWords : List ℕ → Type 0
 AreWords numbers = All (λ number. number < 65536) numbers
