@@ -86,7 +86,8 @@ some_read (suc zero) (suc zero) d order done e g whole most few some =
     (rw (left, word) refl, ap (λ (p : Phase). with_phase p d) (last_read d.file.phase order done e g))
 some_read (suc n) (suc (suc m)) d order done e g whole most few some =
     let less = one_less d.file.phase order done m e g in
-    let rest = some_read n (suc m) (after_read_word d) order done less g whole (omega arith) (omega arith) (omega arith) in
+    let rest = some_read n (suc m) (after_read_word d) order done less g whole (omega arith) (omega arith)
+    (omega arith) in
     let word = word_due d.file.phase d.block order done (suc (suc m)) e g in
     let left = next_word d.block (suc m) whole most in
     let phase : words_given order done (suc m) n ≡ words_given order done (suc (suc m)) (suc n) = grind arith in
@@ -244,7 +245,8 @@ all_read n left count whole d order done e g full most some is two = elim (cases
       let rest : whole - 2 * left ≡ 2 * (n - left) = omega arith in
       let more = words_over n left d order done e g full most some (omega arith) in (
         rw (same, drop-replicate {X = ℕ} (2 * left) whole 255, rest, more.0) (sym (bytes_append (words_read left d)
-            (replicate (n - left) 65535) ∙ ap (λ (bs : List ℕ). bytes_of (words_read left d) ++ bs) (blank_bytes (n - left)))),
+            (replicate (n - left) 65535) ∙ ap (λ (bs : List ℕ). bytes_of (words_read left d) ++ bs)
+            (blank_bytes (n - left)))),
         rw same (sym more.1),
       )
   | inr within ↦
@@ -282,7 +284,8 @@ all_written bytes left count d order done e t some is =
     let front = take (2 * count) bytes in
     let more = drop (2 * count) bytes in
     let fits : 2 * count ≤ length bytes = omega arith in
-    let many : length (words_of front) ≡ count = length_words count front (omega (arith, length-take (2 * count) bytes)) in
+    let many : length (words_of front) ≡ count =
+    length_words count front (omega (arith, length-take (2 * count) bytes)) in
     let split = words_split count bytes fits in
     elim (cases_lt (length bytes / 2) left) [
       | inl within ↦

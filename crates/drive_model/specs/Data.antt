@@ -16,4 +16,5 @@ words_given order done left count =
 -- data-out)
 abbrev pub words_taken : Request → ℕ → ℕ → ℕ → Phase
 words_taken order done left count =
-    if nat_lt count left then Ready (Good order) done (left - count) else Busy (Good order) (done + 1)
+    if nat_lt count left then Ready (Good order) done (left - count)
+    else Busy (Good order) (done + 1)

@@ -112,7 +112,8 @@ wanted_registers phase order done c device error failed pending interrupts b e t
 
 pub wanted_lawful : (f : TaskFile) (b : Bus) (words n : ℕ) (order : Request) (done : ℕ)
     → f.phase ≡ Busy (Good order) done → takes_words order.form ≡ true
-    → done < order.count → IsLawfulState f b words n → IsLawfulState (interrupted_in (Ready (Good order) done 256) f) b 0 n
+    → done < order.count → IsLawfulState f b words n
+    → IsLawfulState (interrupted_in (Ready (Good order) done 256) f) b 0 n
 wanted_lawful f b words n order done e takes more l = record {
   registers = wanted_registers f.phase order done f.control f.device f.error f.failed f.pending
       true b e takes more l.registers;

@@ -59,7 +59,8 @@ has_sector order s = not (nat_lt s order.first) && nat_lt s (order.first + order
 
 -- a sector whose data an order gives
 abbrev pub reads : Taken → ℕ → Bool
-reads (Good order) s = gives_data order.form && not (gives_identity order.kind) && has_sector order s
+reads (Good order) s =
+    gives_data order.form && not (gives_identity order.kind) && has_sector order s
 reads (Bad reason) s = false
 
 -- a sector whose data the order in hand gives

@@ -15,8 +15,8 @@ returns-clause-after g c =
     let n : ℕ = length c.args.bytes.now / 2 in
     let words : List ℕ = words_of c.args.bytes.now in
     let many : length words ≡ n = length_words n c.args.bytes.now (omega arith) in
-    let law = wanted_lawful s.file s.bus s.words _ c.args.order c.args.done c.args.left c.requires.phase c.requires.takes
-    s.lawful in
+    let law = wanted_lawful s.file s.bus s.words _ c.args.order c.args.done c.args.left c.requires.phase
+    c.requires.takes s.lawful in
     let all = some_written words c.args.left d c.args.order c.args.done c.requires.phase c.requires.takes
     (omega arith) law.1 in
     let first : c.from-first.result ≡ s.words = c.from-first.ensures in

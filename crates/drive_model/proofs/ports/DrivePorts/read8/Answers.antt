@@ -7,5 +7,6 @@ use Rattle.drive_model.proofs.ports.DrivePorts.read8.Goals as goal
 
 pub returns-clause-reached : goal.returns-clause-reached
 returns-clause-reached g c = λ origin reached.
-    let is : device_of c.put_file.new.self ≡ accessed (access.Read8 c.args.reg) (device_of c.args.self.now) = search rules in
+    let is : device_of c.put_file.new.self
+    ≡ accessed (access.Read8 c.args.reg) (device_of c.args.self.now) = search rules in
     reaches_more (access.Read8 c.args.reg) origin (device_of c.args.self.now) _ is reached

@@ -14,7 +14,8 @@ invariant_of-self-clause-lawful g c =
 
 pub returns-else-is_of_bus-clause-reached : goal.returns-else-is_of_bus-clause-reached
 returns-else-is_of_bus-clause-reached g c = λ origin reached.
-    let is : device_of c.write_file.new.self ≡ accessed (access.Write8 c.args.reg c.args.v) (device_of c.args.self.now) = search rules in
+    let is : device_of c.write_file.new.self
+    ≡ accessed (access.Write8 c.args.reg c.args.v) (device_of c.args.self.now) = search rules in
     reaches_more (access.Write8 c.args.reg c.args.v) origin (device_of c.args.self.now) _ is reached
 
 pub returns-then-is_of_bus-clause-reached : goal.returns-then-is_of_bus-clause-reached

@@ -7,5 +7,6 @@ use Rattle.drive_model.proofs.ports.DrivePorts.write_word.Goals as goal
 
 pub returns-in-Ready-Good-default-default-clause-reached : goal.returns-in-Ready-Good-default-default-clause-reached
 returns-in-Ready-Good-default-default-clause-reached g c = λ origin reached.
-    let is : device_of c.push_word.new.self ≡ accessed (access.WriteWord c.args.w) (device_of c.args.self.now) = search rules in
+    let is : device_of c.push_word.new.self
+    ≡ accessed (access.WriteWord c.args.w) (device_of c.args.self.now) = search rules in
     reaches_more (access.WriteWord c.args.w) origin (device_of c.args.self.now) _ is reached
