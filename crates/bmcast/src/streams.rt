@@ -3,13 +3,14 @@
 ghost use Rattle.std.specs.Prelude.{◌≡◌, ◌≤◌, ◌<◌, ◌+◌, [], length, take, IfErr, IfOk, OnOk};
 ghost use Rattle.schedule_text.specs.Schedule.{IsOneLine};
 ghost use Rattle.schedule_text.specs.declared.TheConstants.{ANSWER_BYTES};
+ghost use Rattle.bmcast.specs.declared.streams.TheConstants.{BLOCK};
 
 use crate::stop::Stop;
 use crate::waiting::{make_room, write_waiting};
 use arrayvec::ArrayVec;
 use bm_host::{Host, Role};
 use memchr::memchr;
-use schedule_text::{Emitted, Item, LINE_BYTES, write_end, write_item};
+use schedule_text::{Emitted, Item, LINE_BYTES, REPORT_LINE, write_end, write_item};
 use std::cmp::min;
 
 /// The bytes of the schedule that are read in one call.
@@ -17,9 +18,6 @@ pub(crate) const BLOCK: usize = 4096;
 
 /// The report's lines that are gathered before they are written.
 pub(crate) const PENDING: usize = 16384;
-
-/// The bytes that a line of the report may have.
-pub(crate) const REPORT_LINE: usize = 4096;
 
 /// A block of the schedule with what is taken of it, and the report's lines that aren't written yet.
 ///
@@ -36,7 +34,7 @@ pub(crate) struct Streams {
     /// The report's line in hand.
     pub(crate) line: ArrayVec<u8, REPORT_LINE>,
     ghost taken: { at ≤ end },
-    ghost given: { end ≤ 4096 },
+    ghost given: { end ≤ BLOCK },
 }
 
 impl Streams {

@@ -1,4 +1,5 @@
 pub mod Line
 pub mod Schedule
 pub mod BadLine
+pub mod Lengths
 pub mod Report

@@ -19,7 +19,7 @@ use ata_taskfile::{Reg, Step};
 pub use emitted::Emitted;
 pub use read::{line_says_one_event, read_event, read_line};
 pub use schedule::{a_schedule_has_no_bad_line, one_first_bad_line, one_schedule};
-pub use write::{write_end, write_item};
+pub use write::{REPORT_LINE, write_end, write_item};
 
 /// The bytes that a schedule's line may have, without its end.
 pub const LINE_BYTES: usize = 4096;
@@ -30,13 +30,13 @@ pub const LAST_LINE: u32 = u32::MAX - 1;
 /// The words that one line may move through Data.
 pub const EVENT_WORDS: u32 = 256;
 
-/// Their bytes.
+/// The bytes of the words that one line may move through Data.
 pub const WORD_BYTES: usize = 512;
 
 /// The bytes of memory that one line may move, and so the most that an event answers.
 pub const EVENT_BYTES: u32 = 2000;
 
-/// The same as a size.
+/// `EVENT_BYTES` as a size.
 pub const ANSWER_BYTES: usize = 2000;
 
 /// The last place in the drive's cache that a line can name.

@@ -3,15 +3,20 @@
 ghost use Rattle.std.specs.Prelude.{◌≡◌, ◌≤◌, ◌+◌, ◌*◌, ◌++◌, ◌∷◌, [], length, decimal};
 ghost use Rattle.schedule_text.specs.Line.{hex_digit, hex_byte, hex_text};
 ghost use Rattle.schedule_text.specs.Report.{item_text, line_text, end_text};
+ghost use Rattle.schedule_text.specs.Lengths.{FRONT_BYTES, NUMBER_BYTES, TEXT_BYTES};
 ghost use Rattle.schedule_text.specs.declared.TheConstants.{ANSWER_BYTES};
+ghost use Rattle.schedule_text.specs.declared.write.TheConstants.{REPORT_LINE};
 
 use crate::Item;
 use arrayvec::ArrayVec;
 use itoa::Buffer;
 
+/// The bytes that a line of a report may have, its line feed included.
+pub const REPORT_LINE: usize = 4096;
+
 /// Puts one line of a report in place of what `into` holds, its line feed included. `number` is the number of the
 /// event's line, and `bytes` the answer of the event, which only `Item::Answer` tells.
-pub fn write_item(number: u32, item: &Item, bytes: &[u8], into: &mut ArrayVec<u8, 4096>)
+pub fn write_item(number: u32, item: &Item, bytes: &[u8], into: &mut ArrayVec<u8, REPORT_LINE>)
     requires { length bytes.now ≤ ANSWER_BYTES }
     ensures line { into.new.items ≡ line_text number item.now bytes.now }
 {
@@ -24,7 +29,7 @@ pub fn write_item(number: u32, item: &Item, bytes: &[u8], into: &mut ArrayVec<u8
 
 /// Puts the last line of a report in place of what `into` holds, its line feed included. `number` is the number of
 /// the schedule's line `end`.
-pub fn write_end(number: u32, into: &mut ArrayVec<u8, 4096>)
+pub fn write_end(number: u32, into: &mut ArrayVec<u8, REPORT_LINE>)
     ensures line { into.new.items ≡ end_text number }
 {
     into.clear();
@@ -33,12 +38,12 @@ pub fn write_end(number: u32, into: &mut ArrayVec<u8, 4096>)
     into.push(b'\n');
 }
 
-// A line's number and a space are 21 bytes at most. 4,023 are these, `o ` and 2,000 bytes in hexadecimal.
-fn push_item(item: &Item, bytes: &[u8], into: &mut ArrayVec<u8, 4096>)
+// What stands between a line's number and its line feed.
+fn push_item(item: &Item, bytes: &[u8], into: &mut ArrayVec<u8, REPORT_LINE>)
     requires short { length bytes.now ≤ ANSWER_BYTES }
-    requires room { length into.old.items ≤ 21 }
+    requires room { length into.old.items ≤ FRONT_BYTES }
     ensures text { into.new.items ≡ into.old.items ++ item_text item.now bytes.now }
-    ensures len { length into.new.items ≤ 4023 }
+    ensures len { length into.new.items ≤ TEXT_BYTES }
 {
     match *item {
         Item::Answer => {
@@ -61,23 +66,23 @@ fn push_item(item: &Item, bytes: &[u8], into: &mut ArrayVec<u8, 4096>)
     }
 }
 
-fn push_text(text: &[u8], into: &mut ArrayVec<u8, 4096>)
-    requires { length into.old.items + length text.now ≤ 4096 }
+fn push_text(text: &[u8], into: &mut ArrayVec<u8, REPORT_LINE>)
+    requires { length into.old.items + length text.now ≤ REPORT_LINE }
     ensures text { into.new.items ≡ into.old.items ++ text.now }
 {
     into.try_extend_from_slice(text).unwrap();
 }
 
-fn push_decimal(number: u64, into: &mut ArrayVec<u8, 4096>)
-    requires { length into.old.items + 20 ≤ 4096 }
+fn push_decimal(number: u64, into: &mut ArrayVec<u8, REPORT_LINE>)
+    requires { length into.old.items + NUMBER_BYTES ≤ REPORT_LINE }
     ensures text { into.new.items ≡ into.old.items ++ decimal number }
-    ensures len { length into.new.items ≤ length into.old.items + 20 }
+    ensures len { length into.new.items ≤ length into.old.items + NUMBER_BYTES }
 {
     push_text(Buffer::new().format(number).as_bytes(), into);
 }
 
-fn push_hex(bytes: &[u8], into: &mut ArrayVec<u8, 4096>)
-    requires { length into.old.items + 2 * length bytes.now ≤ 4096 }
+fn push_hex(bytes: &[u8], into: &mut ArrayVec<u8, REPORT_LINE>)
+    requires { length into.old.items + 2 * length bytes.now ≤ REPORT_LINE }
     ensures text { into.new.items ≡ into.old.items ++ hex_text bytes.now }
     ensures len { length into.new.items ≡ length into.old.items + 2 * length bytes.now }
 {
@@ -99,8 +104,8 @@ fn put_hex(bytes: &[u8], text: &mut [u8])
     }
 }
 
-fn push_hex_byte(byte: u8, into: &mut ArrayVec<u8, 4096>)
-    requires { length into.old.items + 2 ≤ 4096 }
+fn push_hex_byte(byte: u8, into: &mut ArrayVec<u8, REPORT_LINE>)
+    requires { length into.old.items + 2 ≤ REPORT_LINE }
     ensures text { into.new.items ≡ into.old.items ++ hex_byte byte }
 {
     into.push(hex_of(byte / 16));
