@@ -1,5 +1,5 @@
 -- What the drive's steps make of a dummy read.
-use Rattle.std.proofs.Common.{◌≡◌, ℕ, Bool, refl, subst, arith}
+use Rattle.std.proofs.Common.{◌≡◌, ℕ, Bool, List, refl, sym, subst, arith}
 use Rattle.ata_taskfile.specs.declared.Refused.{Refused}
 use Rattle.ata_taskfile.specs.declared.Request.{Request}
 use Rattle.ata_taskfile.specs.declared.Taken.TheVariants.{Good, Bad}
@@ -7,8 +7,11 @@ use Rattle.ata_taskfile.specs.declared.Phase.{Phase}
 use Rattle.ata_taskfile.specs.declared.Phase.TheVariants.{Reset, Idle, Busy, Ready}
 use Rattle.ata_taskfile.specs.declared.Step.{Step}
 use Rattle.ata_taskfile.specs.declared.Step.TheVariants as step
-use Rattle.plain_drive.specs.Plain.{Plain}
+use Rattle.ata_taskfile.specs.declared.Stepped.{Stepped}
+use Rattle.ata_taskfile.specs.Device.{Cell}
+use Rattle.plain_drive.specs.Plain.{Plain, with_cells}
 use Rattle.plain_drive.specs.Step.{step_made}
+use Rattle.plain_drive.specs.Seen.{HasStepped, HasLetGo}
 use Rattle.own_pio.proofs.Steps.{dev_kept, gave_up, gone, good_order}
 use Rattle.dummy_read.specs.Dummy.{job_on}
 use Rattle.dummy_read.specs.Flight.{FliesIn, IsInFlight}
@@ -51,7 +54,25 @@ bad_flies sector cancelled (Ready taken position left) p f = f
 bad_flies sector cancelled (Busy (Bad reason) position) p f = refused_flies sector cancelled reason position p f
 bad_flies sector cancelled (Busy (Good order) position) p f = failed_flies sector cancelled order position p f
 
-pub step_flies : (sector : ℕ) (cancelled : Bool) (s : Step) (p : Plain) → IsInFlight sector cancelled p.device
+-- other cells change nothing of where the drive stands
+cells_let_go : (sector : ℕ) (cancelled : Bool) (cells : List Cell) (p : Plain) → IsInFlight sector cancelled p.device
+    → IsInFlight sector cancelled (with_cells cells p).device
+cells_let_go sector cancelled cells p f =
+    record { selected = f.selected; stands = f.stands; pending = f.pending; masked = f.masked }
+
+step_flies : (sector : ℕ) (cancelled : Bool) (s : Step) (p : Plain) → IsInFlight sector cancelled p.device
     → IsInFlight sector cancelled (step_made s p).device
 step_flies sector cancelled step.Good p f = good_flies sector cancelled p.device.file.phase p refl f
 step_flies sector cancelled step.Bad p f = bad_flies sector cancelled p.device.file.phase p f
+
+pub stepped_flies : (sector : ℕ) (cancelled : Bool) (s : Step) (answer : Stepped) (old new : Plain)
+    → IsInFlight sector cancelled old.device → HasStepped s answer old new → IsInFlight sector cancelled new.device
+stepped_flies sector cancelled s answer old new f stepped =
+    subst (λ (q : Plain). IsInFlight sector cancelled q.device) (sym stepped.after)
+    (cells_let_go sector cancelled new.device.cells (step_made s old) (step_flies sector cancelled s old f))
+
+pub let_go_flies : (sector : ℕ) (cancelled : Bool) (old new : Plain) → IsInFlight sector cancelled old.device
+    → HasLetGo old new → IsInFlight sector cancelled new.device
+let_go_flies sector cancelled old new f gone =
+    subst (λ (q : Plain). IsInFlight sector cancelled q.device) (sym gone.after)
+    (cells_let_go sector cancelled new.device.cells old f)

@@ -1,5 +1,6 @@
 -- A drive with a dummy read.
 use Rattle.std.specs.Prelude.{◌≡◌, ℕ, Bool, true, false, not}
+use Rattle.std.proofs.Props.{props}
 use Rattle.ata_taskfile.specs.declared.registers.TheConstants.{DEV, NIEN, BLOCK_WORDS}
 use Rattle.ata_taskfile.specs.declared.Taken.{Taken}
 use Rattle.ata_taskfile.specs.declared.Taken.TheVariants.{Good}
@@ -35,6 +36,18 @@ pub record IsInFlight (sector : ℕ) (cancelled : Bool) (d : Device) : Type 0 wh
   pub stands : FliesIn d.file.phase d.file.failed sector d.sectors
   pub pending : d.file.pending ≡ not (is_at_work d.file.phase)
   pub masked : cancelled ≡ true → masks_line d.file ≡ true
+
+-- it has one proof at most, so a ghost field may say it
+FliesIn-prop : (phase : Phase) (failed : Bool) (sector sectors : ℕ)
+    → IsProp (FliesIn phase failed sector sectors)
+FliesIn-prop Reset failed sector sectors = hlevel props
+FliesIn-prop Idle failed sector sectors = hlevel props
+FliesIn-prop (Busy order position) failed sector sectors = hlevel props
+FliesIn-prop (Ready order position left) failed sector sectors = hlevel props
+
+pub IsInFlight-prop : (sector : ℕ) (cancelled : Bool) (d : Device)
+    → IsProp (IsInFlight sector cancelled d)
+IsInFlight-prop sector cancelled d = hlevel (props, FliesIn-prop)
 
 -- the drive once a dummy read has ended: its words are taken, and its interrupt is the guest's to
 -- acknowledge, or was acknowledged where it was cancelled (own)

@@ -2,6 +2,7 @@
 
 ghost use Rattle.std.specs.Prelude.{◌≡◌, ℕ, Bool, true, false, not};
 ghost use Rattle.ata_taskfile.specs.declared.Step.{Step as StepOf};
+ghost use Rattle.ata_taskfile.specs.declared.Stepped.{Stepped as SteppedOf};
 ghost use Rattle.ata_taskfile.specs.declared.Reg.TheVariants.{Alternate};
 ghost use Rattle.ata_taskfile.specs.TaskFile.{masks_line};
 ghost use Rattle.ata_taskfile.specs.Bus.{raised};
@@ -9,14 +10,18 @@ ghost use Rattle.ata_taskfile.specs.Device.{Device, after_write8, line_read};
 ghost use Rattle.ata_taskfile.specs.Lawful.{IsLawful};
 ghost use Rattle.plain_drive.specs.Plain.{Plain};
 ghost use Rattle.plain_drive.specs.Step.{step_made};
+ghost use Rattle.plain_drive.specs.Seen.{HasStepped, HasLetGo};
 ghost use Rattle.own_pio.specs.Named.{nien_of};
 ghost use Rattle.dummy_read.specs.Flight.{IsInFlight};
 
-/// Every step of the drive, good or failing, leaves a dummy read in flight, and nIEN as it is.
+/// Every step of the drive, good or failing, leaves a dummy read in flight, and nIEN as it is; so does a destage.
 pub fn steps_keep_the_flight()
-    ensures flies { (sector : ℕ) (cancelled : Bool) (step : StepOf) (p : Plain) →
-        IsInFlight sector cancelled p.device
-        → IsInFlight sector cancelled (step_made step p).device }
+    ensures stepped { (sector : ℕ) (cancelled : Bool) (step : StepOf) (answer : SteppedOf)
+        (old new : Plain) → IsInFlight sector cancelled old.device
+        → HasStepped step answer old new → IsInFlight sector cancelled new.device }
+    ensures let_go { (sector : ℕ) (cancelled : Bool) (old new : Plain) →
+        IsInFlight sector cancelled old.device → HasLetGo old new
+        → IsInFlight sector cancelled new.device }
     ensures nien { (sector : ℕ) (cancelled : Bool) (step : StepOf) (p : Plain) →
         IsInFlight sector cancelled p.device
         → masks_line (step_made step p).device.file ≡ masks_line p.device.file }

@@ -1,3 +1,1 @@
-pub mod OwnRuns
-pub mod FlightRuns
 pub mod SideRuns

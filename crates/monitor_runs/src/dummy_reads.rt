@@ -4,9 +4,8 @@ ghost use Rattle.std.specs.Prelude.{◌≡◌, ◌<◌, ◌^◌, false, true};
 ghost use Rattle.port_lease.specs.Free.{is_free};
 ghost use Rattle.port_lease.specs.Sides.{has_own};
 ghost use Rattle.dummy_read.specs.Dummy.{sector_of, is_cancelled};
-ghost use Rattle.dummy_read.specs.Flight.{IsInFlight};
+ghost use Rattle.dummy_read.specs.Flight.{IsInFlight, IsInFlight-prop};
 ghost use Rattle.drive_model.specs.Drive.{device_of};
-ghost use Rattle.monitor_runs.specs.Stands.{IsInFlight-prop};
 
 use crate::machine::{Machine, two_sectors};
 use crate::own_commands::written;

@@ -4,26 +4,27 @@ ghost use Rattle.std.specs.Prelude.{◌≡◌, ◌*◌, false, true, length, IfO
 ghost use Rattle.port_lease.specs.Free.{is_free};
 ghost use Rattle.own_pio.specs.Job.{IsFit, count_of};
 ghost use Rattle.own_pio.specs.Own.{job_of, done_of, polls_left};
-ghost use Rattle.own_pio.specs.Running.{IsRunning};
+ghost use Rattle.own_pio.specs.Running.{IsRunning, IsRunning-prop};
 ghost use Rattle.drive_model.specs.Drive.{device_of};
-ghost use Rattle.monitor_runs.specs.Stands.{IsRunning-prop};
 
 use crate::machine::{Machine, two_sectors};
-use Before::{Destages, Nothing, Steps};
+use Before::{Both, Destages, Nothing, Steps};
+use ata_taskfile::Step;
 use ata_taskfile::Step::{Bad, Good};
-use ata_taskfile::{Phase, Step};
 use own_pio::Poll::{Done, Failed, Moved, Waiting};
 use own_pio::{Own, OwnJob, Poll};
 use port_lease::{MonitorSide, power_on};
 use std::alloc::{AllocError, Global};
 use std::test::Fail;
 
-// What happens before a poll: a step of the drive, or its oldest entry is made durable.
+// What happens before a poll: a step of the drive, its oldest entry is made durable, or the one and then the other. So a
+// destage may also find a block in Data, or wanted there.
 #[derive(Clone, Copy, Debug)]
 enum Before {
     Nothing,
     Steps(Step),
     Destages,
+    Both(Step),
 }
 
 // What happens before each poll, and what the poll answers.
@@ -44,7 +45,7 @@ struct Run {
         (device_of machine.drive) } by { Prim.hlevel IsRunning-prop },
 }
 
-// Between two polls; while a block waits in Data nothing is made durable.
+// Between two polls.
 fn prepare(machine: &mut Machine, own: &Own, before: Before)
     requires { IsRunning (job_of own.now) (done_of own.now) (device_of machine.old.drive) }
     ensures { IsRunning (job_of own.now) (done_of own.now) (device_of machine.new.drive) }
@@ -53,6 +54,10 @@ fn prepare(machine: &mut Machine, own: &Own, before: Before)
         Before::Nothing => {}
         Before::Steps(way) => step(machine, own, way),
         Before::Destages => destage(machine, own),
+        Before::Both(way) => {
+            step(machine, own, way);
+            destage(machine, own);
+        }
     }
 }
 
@@ -67,9 +72,6 @@ fn destage(machine: &mut Machine, own: &Own)
     requires { IsRunning (job_of own.now) (done_of own.now) (device_of machine.old.drive) }
     ensures { IsRunning (job_of own.now) (done_of own.now) (device_of machine.new.drive) }
 {
-    if let Phase::Ready(..) = machine.drive.file().phase {
-        return;
-    }
     machine.destage();
 }
 
@@ -176,9 +178,10 @@ const WRITE: [(Before, Poll); 3] = [
     (Steps(Good), Done),
 ];
 
-// The turns of a read of sectors 1 and 2, and the words that were read; a sector that wasn't leaves 0. A failure comes
-// before the first block, or behind it. A destage finds nothing to make durable, and the read sees nothing of it.
-const READS: [(Turns, [u16; 2]); 4] = [
+// The turns of a read of sectors 1 and 2, in which A1B1h and A2B2h were written over 1234h and ABCDh, and aren't durable
+// yet; the words that were read, where a sector that wasn't leaves 0; and the durable words after it. A failure comes
+// before the first block, or behind it. Each destage makes the older one durable, and the read sees nothing of it.
+const READS: [(Turns, [u16; 2], [u16; 2]); 7] = [
     (
         &[
             (Nothing, Waiting),
@@ -186,6 +189,7 @@ const READS: [(Turns, [u16; 2]); 4] = [
             (Nothing, Waiting),
             (Steps(Good), Done),
         ],
+        [0xa1b1, 0xa2b2],
         [0x1234, 0xabcd],
     ),
     (
@@ -194,20 +198,50 @@ const READS: [(Turns, [u16; 2]); 4] = [
             (Steps(Good), Moved),
             (Steps(Good), Done),
         ],
+        [0xa1b1, 0xa2b2],
+        [0xa1b1, 0xabcd],
+    ),
+    (
+        &[(Both(Good), Moved), (Steps(Good), Done)],
+        [0xa1b1, 0xa2b2],
+        [0xa1b1, 0xabcd],
+    ),
+    (
+        &[(Both(Good), Moved), (Both(Good), Done)],
+        [0xa1b1, 0xa2b2],
+        [0xa1b1, 0xa2b2],
+    ),
+    (
+        &[
+            (Destages, Waiting),
+            (Both(Good), Moved),
+            (Destages, Waiting),
+            (Both(Good), Done),
+        ],
+        [0xa1b1, 0xa2b2],
+        [0xa1b1, 0xa2b2],
+    ),
+    (
+        &[(Nothing, Waiting), (Steps(Bad), Failed)],
+        [0, 0],
         [0x1234, 0xabcd],
     ),
-    (&[(Nothing, Waiting), (Steps(Bad), Failed)], [0, 0]),
-    (&[(Steps(Good), Moved), (Steps(Bad), Failed)], [0x1234, 0]),
+    (
+        &[(Both(Good), Moved), (Both(Bad), Failed)],
+        [0xa1b1, 0],
+        [0xa1b1, 0xa2b2],
+    ),
 ];
 
 #[test]
 fn a_read_of_two_sectors(rt: HostRuntime) -> Result<(), Fail> {
-    for (turns, words) in READS {
+    for (turns, words, stored) in READS {
         let wanted = two_sectors(rt.alloc(), words)?;
         let bytes = two_sectors(rt.alloc(), [0, 0])?;
-        let machine = Machine::new(rt.alloc())?;
-        let (went, _, bytes) = carried_out(machine, OwnJob::Read(1, 2), bytes, turns);
-        assert!(rt; went, "{turns:?}");
+        let machine = written(rt.alloc(), [0xa1b1, 0xa2b2])?;
+        let (went, mut machine, bytes) = carried_out(machine, OwnJob::Read(1, 2), bytes, turns);
+        let durable = [machine.durable(1), machine.durable(2)];
+        assert_eq!(rt; (went, durable), (true, stored), "{turns:?}");
         assert_eq!(rt; bytes.as_slice(), wanted.as_slice(), "{turns:?}");
     }
     Ok(())
@@ -216,7 +250,7 @@ fn a_read_of_two_sectors(rt: HostRuntime) -> Result<(), Fail> {
 // The turns of a write of A1B1h in each word of sector 1, and of A2B2h in each of sector 2, and the words that a read
 // of both gives after it. The sectors had 1234h and ABCDh. A write that fails after k blocks went has its first k - 1
 // sectors new, and the others old.
-const WRITES: [(Turns, [u16; 2]); 6] = [
+const WRITES: [(Turns, [u16; 2]); 8] = [
     (
         &[
             (Nothing, Waiting),
@@ -235,6 +269,10 @@ const WRITES: [(Turns, [u16; 2]); 6] = [
             (Destages, Waiting),
             (Steps(Good), Done),
         ],
+        [0xa1b1, 0xa2b2],
+    ),
+    (
+        &[(Both(Good), Moved), (Both(Good), Moved), (Both(Good), Done)],
         [0xa1b1, 0xa2b2],
     ),
     (
@@ -248,6 +286,14 @@ const WRITES: [(Turns, [u16; 2]); 6] = [
     (
         &[(Steps(Good), Moved), (Steps(Bad), Failed)],
         [0x1234, 0xabcd],
+    ),
+    (
+        &[
+            (Both(Good), Moved),
+            (Both(Good), Moved),
+            (Both(Bad), Failed),
+        ],
+        [0xa1b1, 0xabcd],
     ),
     (
         &[
@@ -279,7 +325,7 @@ fn a_write_of_two_sectors(rt: HostRuntime) -> Result<(), Fail> {
 // The turns of a write as above, and of a flush after it, and the durable words of the two sectors after each. A write
 // makes nothing durable, nor does a flush that fails; a destage does so with the oldest written value, which here is
 // sector 1's.
-const FLUSHES: [(Turns, [u16; 2], Turns, [u16; 2]); 7] = [
+const FLUSHES: [(Turns, [u16; 2], Turns, [u16; 2]); 9] = [
     (
         &WRITE,
         [0x1234, 0xabcd],
@@ -330,6 +376,22 @@ const FLUSHES: [(Turns, [u16; 2], Turns, [u16; 2]); 7] = [
         [0x1234, 0xabcd],
         &[(Destages, Waiting), (Steps(Bad), Failed)],
         [0xa1b1, 0xabcd],
+    ),
+    (
+        &[
+            (Both(Good), Moved),
+            (Both(Good), Moved),
+            (Steps(Good), Done),
+        ],
+        [0xa1b1, 0xabcd],
+        &[(Both(Bad), Failed)],
+        [0xa1b1, 0xa2b2],
+    ),
+    (
+        &[(Both(Good), Moved), (Both(Good), Moved), (Both(Good), Done)],
+        [0xa1b1, 0xa2b2],
+        &[(Both(Good), Done)],
+        [0xa1b1, 0xa2b2],
     ),
 ];
 

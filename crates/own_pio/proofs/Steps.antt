@@ -1,5 +1,5 @@
 -- What the drive's steps make of an own command.
-use Rattle.std.proofs.Common.{◌≡◌, ℕ, false, not, ◌==◌, bit_and, bit_or, refl, ap, subst, ◌∙◌, arith}
+use Rattle.std.proofs.Common.{◌≡◌, ℕ, false, not, ◌==◌, bit_and, bit_or, List, refl, sym, ap, subst, ◌∙◌, arith}
 use Rattle.std.proofs.lemmas.Nat.{and_assoc, and_or_apart, and_mask}
 use Rattle.ata_taskfile.specs.declared.Refused.{Refused}
 use Rattle.ata_taskfile.specs.declared.Request.{Request}
@@ -8,12 +8,15 @@ use Rattle.ata_taskfile.specs.declared.Phase.{Phase}
 use Rattle.ata_taskfile.specs.declared.Phase.TheVariants.{Reset, Idle, Busy, Ready}
 use Rattle.ata_taskfile.specs.declared.Step.{Step}
 use Rattle.ata_taskfile.specs.declared.Step.TheVariants as step
+use Rattle.ata_taskfile.specs.declared.Stepped.{Stepped}
 use Rattle.ata_taskfile.specs.declared.registers.TheConstants.{DEV}
 use Rattle.ata_taskfile.specs.TaskFile.{has_bit}
+use Rattle.ata_taskfile.specs.Device.{Cell}
 use Rattle.ata_taskfile.specs.Lawful.{IsLawful}
 use Rattle.plain_drive.specs.Plain.{Plain, with_cells}
 use Rattle.plain_drive.specs.Change.{cells_after, change_in}
 use Rattle.plain_drive.specs.Step.{good_step_in, bad_step_in, step_made}
+use Rattle.plain_drive.specs.Seen.{HasStepped, HasLetGo}
 use Rattle.own_pio.specs.declared.job.OwnJob.{OwnJob}
 use Rattle.own_pio.specs.declared.job.OwnJob.TheVariants.{Read, Write, Flush}
 use Rattle.own_pio.specs.Job.{IsFit, job_request, job_order}
@@ -43,8 +46,10 @@ dev_kept device b e =
 
 -- where the drive stands, by its phase
 pub stands_at : (job : OwnJob) (done : ℕ) (phase : Phase) (p : Plain) → p.device.file.phase ≡ phase
-    → IsRunning job done p.device → StandsIn phase job done p.device
-stands_at job done phase p e r = let P : Phase → Type 0 = λ x. StandsIn x job done p.device in subst P e r.stands
+    → IsRunning job done p.device → StandsIn phase p.device.file.failed job done p.device.sectors
+stands_at job done phase p e r =
+    let P : Phase → Type 0 = λ x. StandsIn x p.device.file.failed job done p.device.sectors in
+    subst P e r.stands
 
 -- a good step of a read
 read_running : (first count done : ℕ) (order : Request) (position : ℕ) (p : Plain) → IsFit (Read first count)
@@ -104,7 +109,26 @@ bad_running job done (Ready taken position left) p e r = r
 bad_running job done (Busy (Bad reason) position) p e r = refused_running job done reason position p r
 bad_running job done (Busy (Good order) position) p e r = failed_running job done order position p r
 
-pub step_running : (job : OwnJob) (done : ℕ) (s : Step) (p : Plain) → IsFit job → IsLawful p.device
+-- other cells change nothing of where the drive stands
+cells_let_go : (job : OwnJob) (done : ℕ) (cells : List Cell) (p : Plain) → IsRunning job done p.device
+    → IsRunning job done (with_cells cells p).device
+cells_let_go job done cells p r =
+    record { masked = r.masked; selected = r.selected; stands = r.stands; well = r.well }
+
+step_running : (job : OwnJob) (done : ℕ) (s : Step) (p : Plain) → IsFit job → IsLawful p.device
     → IsRunning job done p.device → IsRunning job done (step_made s p).device
 step_running job done step.Good p fit l r = good_running job done p.device.file.phase p fit refl l r
 step_running job done step.Bad p fit l r = bad_running job done p.device.file.phase p refl r
+
+pub stepped_running : (job : OwnJob) (done : ℕ) (s : Step) (answer : Stepped) (old new : Plain) → IsFit job
+    → IsLawful old.device → IsRunning job done old.device → HasStepped s answer old new
+    → IsRunning job done new.device
+stepped_running job done s answer old new fit l r stepped =
+    let next = step_running job done s old fit l r in
+    subst (λ (q : Plain). IsRunning job done q.device) (sym stepped.after) (cells_let_go job done new.device.cells
+    (step_made s old) next)
+
+pub let_go_running : (job : OwnJob) (done : ℕ) (old new : Plain) → IsRunning job done old.device
+    → HasLetGo old new → IsRunning job done new.device
+let_go_running job done old new r gone =
+    subst (λ (q : Plain). IsRunning job done q.device) (sym gone.after) (cells_let_go job done new.device.cells old r)

@@ -1,10 +1,9 @@
 -- What a poll answers and changes.
-use Rattle.std.specs.Prelude.{ℕ, Bool, true, false, ◌+◌, ◌-◌, ◌*◌, ◌==◌, if◌then◌else◌, List}
+use Rattle.std.specs.Prelude.{ℕ, Bool, true, false, ◌-◌, ◌*◌, ◌==◌, if◌then◌else◌, List}
 use Rattle.ata_taskfile.specs.declared.registers.TheConstants.{SECTOR_BYTES, BSY, DRQ, ERR}
 use Rattle.ata_taskfile.specs.declared.task_file.TaskFile.{TaskFile}
 use Rattle.ata_taskfile.specs.TaskFile.{has_bit, status}
 use Rattle.ata_taskfile.specs.Device.{Device}
-use Rattle.plain_drive.specs.Plain.{sector_value, words_of}
 use Rattle.plain_drive.specs.Words.{bytes_of}
 use Rattle.own_pio.specs.declared.job.OwnJob.{OwnJob}
 use Rattle.own_pio.specs.declared.job.OwnJob.TheVariants.{Read, Write, Flush}
@@ -49,17 +48,15 @@ left_after Moved left = left - 1
 left_after Done left = 0
 left_after Failed left = 0
 
--- the bytes of a read after a poll: a block that went is the sector's, at its place
-abbrev pub bytes_read : Poll → ℕ → ℕ → Device → List ℕ → List ℕ
-bytes_read Waiting first done d bytes = bytes
-bytes_read Moved first done d bytes =
-    put_over (SECTOR_BYTES * done) (bytes_of (words_of (sector_value (first + done) d))) bytes
-bytes_read Done first done d bytes =
-    put_over (SECTOR_BYTES * done) (bytes_of (words_of (sector_value (first + done) d))) bytes
-bytes_read Failed first done d bytes = bytes
+-- the bytes of a read after a poll: the block that went, at its place
+abbrev pub bytes_read : Poll → ℕ → Device → List ℕ → List ℕ
+bytes_read Waiting done d bytes = bytes
+bytes_read Moved done d bytes = put_over (SECTOR_BYTES * done) (bytes_of d.block) bytes
+bytes_read Done done d bytes = put_over (SECTOR_BYTES * done) (bytes_of d.block) bytes
+bytes_read Failed done d bytes = bytes
 
 -- the bytes of a job after a poll; those of a write stay
 abbrev pub bytes_after : OwnJob → Poll → ℕ → Device → List ℕ → List ℕ
-bytes_after (Read first count) poll done d bytes = bytes_read poll first done d bytes
+bytes_after (Read first count) poll done d bytes = bytes_read poll done d bytes
 bytes_after (Write first count) poll done d bytes = bytes
 bytes_after Flush poll done d bytes = bytes

@@ -16,7 +16,9 @@ mod polling;
 
 pub use commands::command_read;
 pub use job::{MOST_MOVED, OwnJob};
-pub use laws::{steps_keep_running, steps_keep_what_was_done};
+pub use laws::{
+    a_step_ends_the_wait, steps_are_unseen, steps_keep_running, steps_keep_what_was_done,
+};
 pub use own::Own;
 pub use polling::acknowledge;
 

@@ -26,6 +26,7 @@ impl Own {
     ghost use Rattle.ata_taskfile.specs.declared.Phase.TheVariants.{Busy};
     ghost use Rattle.ata_taskfile.specs.Device.{Cell};
     ghost use Rattle.port_lease.specs.Free.{is_free};
+    ghost use Rattle.port_lease.specs.Handover.{shows_well};
     ghost use Rattle.port_lease.specs.Sides.{view_held, has_own};
     ghost use Rattle.own_pio.specs.Job.{count_of, command_of, job_order};
     ghost use Rattle.own_pio.specs.Own.{job_of, polls_left, done_of};
@@ -34,6 +35,7 @@ impl Own {
     ghost use Rattle.own_pio.specs.Kept.{IsDoneSoFar, Leaves};
 
     /// Begins a job on a free drive, with nIEN at 1, so that the guest sees nothing of it.
+    #[tactic(auto, using(crate::proofs::Stored::begun_kept))]
     pub fn begin<P: Ports>(side: &mut MonitorSide, ports: &mut P, job: OwnJob) -> Own
         requires alone { has_own side.old ≡ false }
         requires free { is_free (P.device ports.old).file ≡ true }
@@ -91,6 +93,8 @@ impl Own {
         ensures runs { goes_on result ≡ true
             → IsRunning (job_of self.new) (done_of self.new) (P.device ports.new) }
         ensures free { goes_on result ≡ false → is_free (P.device ports.new).file ≡ true }
+        ensures well { result ≡ Poll.Done → shows_well (P.device ports.new).file ≡ true }
+        ensures goes { goes_on result ≡ true → 0 < polls_left self.new }
         ensures own { has_own side.new ≡ (goes_on result && has_own side.old) }
 
         // The guest sees nothing of it, and no sector changes but by the drive's own steps.

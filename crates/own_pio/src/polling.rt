@@ -5,6 +5,7 @@ ghost use Rattle.ata_taskfile.specs.Device.{Cell};
 ghost use Rattle.own_pio.specs.Kept.{IsDoneSoFar, Leaves};
 ghost use Rattle.ata_taskfile.specs.TaskFile.{has_bit, status};
 ghost use Rattle.port_lease.specs.Free.{is_free};
+ghost use Rattle.port_lease.specs.Handover.{shows_well};
 ghost use Rattle.port_lease.specs.Sides.{view_held, has_own};
 ghost use Rattle.own_pio.specs.Job.{IsFit, count_of, polls_of};
 ghost use Rattle.own_pio.specs.Running.{IsRunning, IsUnseen};
@@ -52,6 +53,8 @@ pub(crate) fn poll_drive<P: Ports>(job: OwnJob, left: u32, ports: &mut P, bytes:
     ensures runs { goes_on result ≡ true
         → IsRunning job (done_by job (left_after result left)) (P.device ports.new) }
     ensures free { goes_on result ≡ false → is_free (P.device ports.new).file ≡ true }
+    ensures well { result ≡ Poll.Done → shows_well (P.device ports.new).file ≡ true }
+    ensures goes { goes_on result ≡ true → 0 < left_after result left }
     ensures kept { (start : List ℕ) (origin : List Cell) →
         IsDoneSoFar job (done_by job left) bytes.old start origin (P.device ports.old)
         → Leaves result job left bytes.new start origin (P.device ports.new) }
@@ -97,6 +100,8 @@ fn move_block<P: Ports>(job: OwnJob, left: u32, ports: &mut P, bytes: &mut [u8])
     ensures runs { goes_on result ≡ true
         → IsRunning job (done_by job (left_after result left)) (P.device ports.new) }
     ensures free { goes_on result ≡ false → is_free (P.device ports.new).file ≡ true }
+    ensures well { result ≡ Poll.Done → shows_well (P.device ports.new).file ≡ true }
+    ensures goes { goes_on result ≡ true → 0 < left_after result left }
     ensures kept { (start : List ℕ) (origin : List Cell) →
         IsDoneSoFar job (done_by job left) bytes.old start origin (P.device ports.old)
         → Leaves result job left bytes.new start origin (P.device ports.new) }
