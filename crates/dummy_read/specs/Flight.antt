@@ -37,7 +37,7 @@ pub record IsInFlight (sector : ℕ) (cancelled : Bool) (d : Device) : Type 0 wh
   pub pending : d.file.pending ≡ not (is_at_work d.file.phase)
   pub masked : cancelled ≡ true → masks_line d.file ≡ true
 
--- it has one proof at most, so a ghost field may say it
+-- where a dummy read stands has one proof at most
 FliesIn-prop : (phase : Phase) (failed : Bool) (sector sectors : ℕ)
     → IsProp (FliesIn phase failed sector sectors)
 FliesIn-prop Reset failed sector sectors = hlevel props
@@ -45,6 +45,7 @@ FliesIn-prop Idle failed sector sectors = hlevel props
 FliesIn-prop (Busy order position) failed sector sectors = hlevel props
 FliesIn-prop (Ready order position left) failed sector sectors = hlevel props
 
+-- that a dummy read is in flight has one proof at most, so a ghost field may say it
 pub IsInFlight-prop : (sector : ℕ) (cancelled : Bool) (d : Device)
     → IsProp (IsInFlight sector cancelled d)
 IsInFlight-prop sector cancelled d = hlevel (props, FliesIn-prop)

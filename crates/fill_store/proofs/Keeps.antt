@@ -4,7 +4,7 @@ use Rattle.std.proofs.Math.Path.{subst}
 use Rattle.std.proofs.lemmas.Bool.{cases_lt}
 use Rattle.ata_taskfile.specs.Device.{Cell}
 use Rattle.plain_drive.specs.Plain.{appended, all_flushed}
-use Rattle.plain_drive.proofs.Cells.{appended-current}
+use Rattle.plain_drive.proofs.Cells.{length-appended, appended-current}
 use Rattle.fill_bitmap.specs.declared.area.Area.{Area}
 use Rattle.fill_bitmap.specs.Area.{blocks_of, bitmap_sectors_of, reserved_of, sector_of_bits}
 use Rattle.fill_bitmap.specs.Bits.{sector_of}
@@ -13,7 +13,7 @@ use Rattle.fill_bitmap.specs.Disk.{header_of}
 use Rattle.fill_bitmap.proofs.Bytes.{bit_written}
 use Rattle.plain_drive.specs.Cells.{value_at, ForgetsOld}
 use Rattle.fill_store.specs.Cells.{HasBits, HasBitsBetween, KeepsBits}
-use Rattle.fill_store.proofs.Values.{each_map, each_written, other_written, length-appended, each_flushed, flush_forgets, each_forgets}
+use Rattle.fill_store.proofs.Values.{each_map, each_written, other_written, each_flushed, flush_forgets, each_forgets}
 
 -- the newest values of the bitmap's sectors stay where older ones were forgotten
 pub bits_forget : (n : ℕ) (bytes : ℕ → List ℕ) (area : Area) (old new : List Cell) → ForgetsOld old new

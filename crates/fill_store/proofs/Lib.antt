@@ -5,3 +5,4 @@ pub mod Keeps
 pub mod Opens
 pub mod OpeningCuts
 pub mod Settles
+pub mod OneSector

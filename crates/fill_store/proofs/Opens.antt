@@ -7,7 +7,7 @@ use Rattle.std.proofs.lemmas.List.{length-map, length-replicate}
 use Rattle.std.proofs.lemmas.Slice.Eq.{bytes_eq-Decides}
 use Rattle.ata_taskfile.specs.Device.{Cell}
 use Rattle.plain_drive.specs.Plain.{settled, appended, all_flushed, stored}
-use Rattle.plain_drive.proofs.Cells.{appended-current}
+use Rattle.plain_drive.proofs.Cells.{length-appended, appended-current}
 use Rattle.own_pio.specs.declared.job.OwnJob.{OwnJob}
 use Rattle.own_pio.specs.declared.job.OwnJob.TheVariants.{Write}
 use Rattle.fill_bitmap.specs.declared.area.Area.{Area}
@@ -25,7 +25,7 @@ use Rattle.plain_drive.specs.Cells.{Each, ForgetsOld}
 use Rattle.fill_store.specs.Cells.{MadeBy, HasBitsBetween, KeepsBits}
 use Rattle.fill_store.specs.Opening.{OpeningState, opening_of, IsReached, job_at, bytes_at, next_in_opening, bytes_to_open, read_from, zeros_from, step_after, sets_behind, opening_after, sets_after_opening}
 use Rattle.fill_store.specs.OpeningCells.{IsEither, alike, LeavesOldOrNew, HasOldBits, HasOldHeader, HasZeros, HasOnlyZeros, CellsAt, blocks_at, MadeByOpening, Opens}
-use Rattle.fill_store.proofs.Values.{newest, each_map, each_written, length-appended, each_flushed, flush_forgets, each_forgets, at_power_on, on_test}
+use Rattle.fill_store.proofs.Values.{newest, each_map, each_written, each_flushed, flush_forgets, each_forgets, at_power_on, on_test}
 use Rattle.fill_store.proofs.Stored.{no_bit}
 use Rattle.fill_store.proofs.Keeps.{bits_forget, bits_stand, one_more, keeps_forgets}
 

@@ -42,12 +42,7 @@ pub other_written : (s other : ℕ) (bytes : List ℕ) (cells : List Cell) → o
     → value_at other (appended s bytes cells) ≡ value_at other cells
 other_written s other bytes cells apart = ap current (appended-others s other bytes cells apart)
 
--- a write and a flush leave as many cells
-pub length-appended : (s : ℕ) (bytes : List ℕ) (cells : List Cell) → length (appended s bytes cells) ≡ length cells
-length-appended s bytes [] = refl
-length-appended zero bytes (cell ∷ cells) = refl
-length-appended (suc s) bytes (cell ∷ cells) = ap suc (length-appended s bytes cells)
-
+-- a flush leaves as many cells
 pub length-all_flushed : (cells : List Cell) → length (all_flushed cells) ≡ length cells
 length-all_flushed cells = length-map cells flushed
 

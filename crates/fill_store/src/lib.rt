@@ -13,6 +13,7 @@
 mod header_bytes;
 mod laws;
 mod opening;
+mod own_jobs;
 mod sectors;
 mod settle;
 #[cfg(test)]
@@ -30,4 +31,5 @@ pub use laws::{
     the_header_is_written_behind_durable_zeros,
 };
 pub use opening::Opening;
+pub use own_jobs::a_job_of_one_sector_is_done;
 pub use settle::Settle;

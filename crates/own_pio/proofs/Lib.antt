@@ -4,3 +4,4 @@ pub mod Words
 pub mod Written
 pub mod Steps
 pub mod Stored
+pub mod SectorBySector

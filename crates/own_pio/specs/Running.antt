@@ -53,7 +53,7 @@ pub record IsRunning (job : OwnJob) (done : ℕ) (d : Device) : Type 0 where
   pub stands : StandsIn d.file.phase d.file.failed job done d.sectors
   pub well : d.file.failed ≡ false → d.file.error ≡ 0
 
--- it has one proof at most, so a ghost field may say it
+-- where a drive stands with a job has one proof at most
 StandsIn-prop : (phase : Phase) (failed : Bool) (job : OwnJob) (done sectors : ℕ)
     → IsProp (StandsIn phase failed job done sectors)
 StandsIn-prop Reset failed job done sectors = hlevel props
@@ -61,6 +61,7 @@ StandsIn-prop Idle failed job done sectors = hlevel props
 StandsIn-prop (Busy order position) failed job done sectors = hlevel props
 StandsIn-prop (Ready order position left) failed job done sectors = hlevel props
 
+-- that a job runs has one proof at most, so a ghost field may say it
 pub IsRunning-prop : (job : OwnJob) (done : ℕ) (d : Device) → IsProp (IsRunning job done d)
 IsRunning-prop job done d = hlevel (props, StandsIn-prop)
 

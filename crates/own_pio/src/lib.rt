@@ -13,6 +13,7 @@ mod laws;
 mod moving;
 mod own;
 mod polling;
+mod sectors;
 
 pub use commands::command_read;
 pub use job::{MOST_MOVED, OwnJob};
@@ -21,6 +22,7 @@ pub use laws::{
 };
 pub use own::Own;
 pub use polling::acknowledge;
+pub use sectors::{a_read_gives_each_sector, a_write_reaches_each_sector};
 
 /// What a poll found.
 #[derive(Clone, Copy, Debug, PartialEq, Eq)]

@@ -20,6 +20,12 @@ current_is_a_value cell = first cell.durable cell.written
     first durable [] = (0, omega arith, refl)
     first durable (value ∷ written) = (0, omega arith, refl)
 
+-- a write leaves as many cells
+pub length-appended : (s : ℕ) (value : List ℕ) (cells : List Cell) → length (appended s value cells) ≡ length cells
+length-appended s value [] = refl
+length-appended zero value (cell ∷ cells) = refl
+length-appended (suc s) value (cell ∷ cells) = ap suc (length-appended s value cells)
+
 -- a value that is written is the current one of its sector
 pub appended-current : (s : ℕ) (value : List ℕ) (cells : List Cell) → s < length cells
     → current (slice_index_or (appended s value cells) s (settled [])) ≡ value
