@@ -50,7 +50,7 @@ impl Dummy {
     {
         let masked = has_bit(NIEN, side.view().file.control);
         side.own_begins();
-        command_read(ports, masked, sector, 1);
+        command_read(side, ports, masked, sector, 1);
         Dummy {
             sector,
             cancelled: false,
@@ -87,7 +87,7 @@ impl Dummy {
         }
         self.take_words(ports);
         if self.cancelled {
-            acknowledge(ports);
+            acknowledge(side, ports);
         }
         side.own_ended();
         true

@@ -57,7 +57,7 @@ impl Own {
         ensures rest { P.rest ports.new ≡ P.rest ports.old }
     {
         side.own_begins();
-        command_job(ports, job);
+        command_job(side, ports, job);
         Own {
             job,
             left: job.polls(),
@@ -102,7 +102,7 @@ impl Own {
         ensures view { view_held side.new ≡ view_held side.old }
         ensures rest { P.rest ports.new ≡ P.rest ports.old }
     {
-        let poll = poll_drive(self.job, self.left, ports, bytes);
+        let poll = poll_drive(self.job, self.left, side, ports, bytes);
         self.left = left_after(poll, self.left);
         mark_if_ended(side, poll);
         poll

@@ -41,7 +41,13 @@ pub(crate) fn mark_if_ended(side: &mut MonitorSide, poll: Poll)
 }
 
 // Polls the drive, and moves a block where one waits in Data or is wanted there.
-pub(crate) fn poll_drive<P: Ports>(job: OwnJob, left: u32, ports: &mut P, bytes: &mut [u8]) -> Poll
+pub(crate) fn poll_drive<P: Ports>(
+    job: OwnJob,
+    left: u32,
+    side: &mut MonitorSide,
+    ports: &mut P,
+    bytes: &mut [u8],
+) -> Poll
     requires fit { IsFit job }
     requires stands { 0 < left }
     requires within { left ≤ polls_of job }
@@ -59,9 +65,10 @@ pub(crate) fn poll_drive<P: Ports>(job: OwnJob, left: u32, ports: &mut P, bytes:
         IsDoneSoFar job (done_by job left) bytes.old start origin (P.device ports.old)
         → Leaves result job left bytes.new start origin (P.device ports.new) }
     ensures unseen { IsUnseen (P.device ports.old) (P.device ports.new) }
+    ensures side { side.new ≡ side.old }
     ensures rest { P.rest ports.new ≡ P.rest ports.old }
 {
-    let status = acknowledge(ports);
+    let status = acknowledge(side, ports);
     if has_bit(BSY, status) {
         return Poll::Waiting;
     }
@@ -76,10 +83,11 @@ pub(crate) fn poll_drive<P: Ports>(job: OwnJob, left: u32, ports: &mut P, bytes:
 
 /// Reads Status, which acknowledges the drive's interrupt: none pends then, and the line is low (ATA/ATAPI-6, Status
 /// register).
-pub fn acknowledge<P: Ports>(ports: &mut P) -> u8
+pub fn acknowledge<P: Ports>(side: &mut MonitorSide, ports: &mut P) -> u8
     ensures status { result ≡ status (P.device ports.old).file }
     ensures after { let d = P.device ports.old in
         P.device ports.new ≡ record d { file = record d.file { pending = false } } }
+    ensures side { side.new ≡ side.old }
     ensures rest { P.rest ports.new ≡ P.rest ports.old }
 {
     ports.read8(Reg::Status)

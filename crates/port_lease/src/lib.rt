@@ -1,10 +1,10 @@
 //! Who has the drive: the guest, the monitor, or, once the monitor is gone, the guest alone.
 //!
 //! Each state is a type that can be neither copied nor let go. Start with `guest_side`, `monitor_side` and `gone`
-//! for the types, then `taking`, `giving` and `removing` for the ways from one to the next, and `guest_access` for
-//! what a guest's access does on its own side; `writing` has what the monitor writes to a drive at rest, for its own
-//! commands too. `specs/Seen.antt` says what the guest sees on either side, `specs/Handover.antt` what a change of
-//! sides makes of drive and view, and `docs/monitor.md` has the rules as tables.
+//! for the types, then `taking`, `giving` and `removing` for the ways from one to the next. `guest_access` has what a
+//! guest's access does on its own side, and `monitor_access` what the monitor writes on its own, for commands of its
+//! own; `writing` is below both. `specs/Seen.antt` says what the guest sees on either side, `specs/Handover.antt` what
+//! a change of sides makes of drive and view, and `docs/monitor.md` has the rules as tables.
 //!
 //! The tests are those of the crate `monitor_runs`, over the real drive.
 
@@ -15,6 +15,7 @@ mod gone;
 mod guest_access;
 mod guest_side;
 mod laws;
+mod monitor_access;
 mod monitor_side;
 mod reading;
 mod removing;
@@ -34,4 +35,3 @@ pub use reading::shows_rest;
 pub use removing::{Unclean, remove};
 pub use taking::{Busy, take};
 pub use view::View;
-pub use writing::{put_command, put_control, put_register};

@@ -26,9 +26,8 @@ pub(crate) fn stop_walk<P: Ports>(ports: &mut P)
     ports.write8(Reg::BusCommand, command & !START);
 }
 
-/// Writes Device Control, which keeps HOB and nIEN of `v`, of a drive without an interrupt, so that the line stays low
-/// (ATA/ATAPI-6, Device Control register). SRST at 1 would begin a reset.
-pub fn put_control<P: Ports>(ports: &mut P, v: u8)
+// Writes Device Control of a drive without an interrupt, by a byte that begins no reset.
+pub(crate) fn put_control<P: Ports>(ports: &mut P, v: u8)
     requires unpended { (P.device ports.old).file.pending ≡ false }
     requires no_reset { has_bit SRST v ≡ false }
     ensures put { let d = P.device ports.old in
@@ -41,11 +40,9 @@ pub fn put_control<P: Ports>(ports: &mut P, v: u8)
     ports.write8(Reg::Alternate, v);
 }
 
-/// Writes a register of the command block other than Command. A drive at work ignores it. In one of two bytes the byte
-/// becomes the current one, and what was current the previous one (ATA/ATAPI-6, BSY bit and 48-bit Address feature
-/// set).
+// Writes a register of the command block other than Command, which a drive at work ignores.
 #[tactic(auto, using(crate::proofs::Plain::plainly))]
-pub fn put_register<P: Ports>(ports: &mut P, reg: Reg, v: u8)
+pub(crate) fn put_register<P: Ports>(ports: &mut P, reg: Reg, v: u8)
     requires plain { is_plain_register reg ≡ true }
     ensures put { P.device ports.new ≡ plainly_written reg v (P.device ports.old) }
     ensures rest { P.rest ports.new ≡ P.rest ports.old }
@@ -88,9 +85,8 @@ pub(crate) fn put_registers<P: Ports>(ports: &mut P, file: &TaskFile)
     put_register(ports, Reg::Device, file.device);
 }
 
-/// Writes Command of a drive at rest with DEV at 0. The drive is then at work on the order that `command` gives over
-/// its registers, or on its refusal; Error is 00h, and no other register changes (ATA/ATAPI-6, Command register).
-pub fn put_command<P: Ports>(ports: &mut P, command: u8)
+// Writes Command of a drive at rest with DEV at 0, which is then at work on the command's order or its refusal.
+pub(crate) fn put_command<P: Ports>(ports: &mut P, command: u8)
     requires rests { IsAtRest (P.device ports.old).file }
     requires selected { has_bit DEV (P.device ports.old).file.device ≡ false }
     ensures taken { let d = P.device ports.old in P.device ports.new ≡ record d {
