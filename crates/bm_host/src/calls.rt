@@ -4,8 +4,8 @@ use crate::{Failed, Host, NoMemory, Role};
 use std::alloc::Global;
 
 /// A call through the trait, and what it is to answer.
-#[derive(Clone, Copy, Debug, PartialEq, Eq)]
-pub enum Call {
+#[derive(Clone, Copy)]
+pub(crate) enum Call {
     Begin(Role, &'static str, Result<(), Failed>),
     Length(Role, Result<u64, Failed>),
     /// These bytes stand at a place before the role's end; 16 of them at most.
@@ -18,7 +18,7 @@ pub enum Call {
 
 impl Call {
     /// Makes the call, and says whether it answers so.
-    pub fn goes<H: Host>(&self, host: &mut H) -> bool {
+    pub(crate) fn goes<H: Host>(&self, host: &mut H) -> bool {
         match *self {
             Call::Begin(role, name, answer) => host.begin(role, name) == answer,
             Call::Length(role, answer) => host.length(role) == answer,
@@ -31,18 +31,18 @@ impl Call {
     }
 }
 
-/// The first call that answers otherwise.
-pub fn first_wrong<H: Host>(host: &mut H, calls: &[Call]) -> Option<Call> {
-    for call in calls {
+/// The first call that answers otherwise, by its number from 0 on.
+pub(crate) fn first_wrong<H: Host>(host: &mut H, calls: &[Call]) -> Option<usize> {
+    for (i, call) in calls.iter().enumerate() {
         if !call.goes(host) {
-            return Some(*call);
+            return Some(i);
         }
     }
     None
 }
 
 /// Two files of Schedule, of which the second counts, and one of Disk and of Report each.
-pub fn small_files(alloc: Global) -> Result<Vec<(Role, Vec<u8>)>, NoMemory> {
+pub(crate) fn small_files(alloc: Global) -> Result<Vec<(Role, Vec<u8>)>, NoMemory> {
     let mut files = Vec::new(alloc);
     files.push((Role::Schedule, b"twice".to_vec(alloc)?))?;
     files.push((Role::Disk, b"0123456789".to_vec(alloc)?))?;

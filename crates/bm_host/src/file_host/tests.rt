@@ -30,34 +30,31 @@ fn reads_of_a_file(rt: HostRuntime) -> Result<(), Fail> {
     Ok(())
 }
 
-// A place and a number of bytes to be read of a file of 10: the read fails where they end past the file's end. After
-// each, reads in order still start at the file's start.
+// A place and a number of bytes to be read of a file of 10: the read fails where they end past the file's end.
+const ENDS: [(u64, usize, Result<(), Failed>); 8] = [
+    (0, 4, Ok(())),
+    (6, 4, Ok(())),
+    (10, 0, Ok(())),
+    (7, 4, Err(Failed)),
+    (9, 2, Err(Failed)),
+    (10, 1, Err(Failed)),
+    (11, 0, Err(Failed)),
+    (u64::MAX, 4, Err(Failed)),
+];
+
+// After each read, reads in order still start at the file's start.
 #[test]
 fn reads_past_the_end(rt: HostRuntime) -> Result<(), Fail> {
-    let cases = [
-        (0, 4, Ok(())),
-        (6, 4, Ok(())),
-        (10, 0, Ok(())),
-        (7, 4, Err(Failed)),
-        (9, 2, Err(Failed)),
-        (10, 1, Err(Failed)),
-        (11, 0, Err(Failed)),
-        (u64::MAX, 4, Err(Failed)),
-    ];
     let begin = Begin(Role::Image, "host_ends/image", Ok(()));
     let next = ReadNext(Role::Image, Ok(4), b"0123");
     fs::create_dir(&rt, "host_ends")?;
     fs::write(&rt, "host_ends/image", b"0123456789")?;
-    for (place, count, answer) in cases {
+    for (i, &(place, count, answer)) in ENDS.iter().enumerate() {
         let mut host = FileHost::new(&rt);
         let mut into = [0; 4];
-        assert!(rt; count <= into.len() && begin.goes(&mut host));
-        assert_eq!(rt;
-            host.read_at(Role::Image, place, &mut into[..count]),
-            answer,
-            "{count} bytes at {place}"
-        );
-        assert!(rt; next.goes(&mut host), "after {count} bytes at {place}");
+        assert!(rt; count <= into.len() && begin.goes(&mut host), "row {i}");
+        let ended = host.read_at(Role::Image, place, &mut into[..count]);
+        assert!(rt; ended == answer && next.goes(&mut host), "row {i}");
     }
     fs::remove_file(&rt, "host_ends/image")?;
     fs::remove_dir(&rt, "host_ends")?;
@@ -89,81 +86,89 @@ fn writes_of_files(rt: HostRuntime) -> Result<(), Fail> {
     Ok(())
 }
 
-// Before its begin no role can be read or written, but for Console, to which is only appended.
+// Whether a role that wasn't begun can't be read or written, but for Console, to which is only appended.
+fn waits_for_begin<H: Host>(host: &mut H, role: Role) -> bool {
+    let appended = match role {
+        Role::Console => Ok(()),
+        _ => Err(Failed),
+    };
+    Length(role, Err(Failed)).goes(host)
+        && ReadNext(role, Err(Failed), b"....").goes(host)
+        && WriteAt(role, 0, b"", Err(Failed)).goes(host)
+        && WriteNext(role, b"", appended).goes(host)
+        && host.read_at(role, 0, &mut []) == Err(Failed)
+}
+
 #[test]
 fn calls_before_begin(rt: HostRuntime) {
     let mut host = FileHost::new(&rt);
-    for role in ROLES {
-        let appended = match role {
-            Role::Console => Ok(()),
-            _ => Err(Failed),
-        };
-        let calls = [
-            Length(role, Err(Failed)),
-            ReadNext(role, Err(Failed), b"...."),
-            WriteAt(role, 0, b"", Err(Failed)),
-            WriteNext(role, b"", appended),
-        ];
-        assert_eq!(rt; first_wrong(&mut host, &calls), None);
-        assert_eq!(rt; host.read_at(role, 0, &mut []), Err(Failed), "{role:?}");
+    for (i, &role) in ROLES.iter().enumerate() {
+        assert!(rt; waits_for_begin(&mut host, role), "role {i}");
     }
 }
 
-// A missing file for what is read, and for every role a file in a missing folder and a folder. The role is not begun
-// then, and nothing is made: the folder of the test is empty at the end.
+// A missing file for what is read, and for every role a file in a missing folder and a folder.
+const NO_FILES: [(Role, &str); 13] = [
+    (Role::Image, "host_begins/missing"),
+    (Role::Disk, "host_begins/missing"),
+    (Role::Schedule, "host_begins/missing"),
+    (Role::Image, "host_begins/missing/file"),
+    (Role::Disk, "host_begins/missing/file"),
+    (Role::Schedule, "host_begins/missing/file"),
+    (Role::Report, "host_begins/missing/file"),
+    (Role::Out, "host_begins/missing/file"),
+    (Role::Image, "host_begins"),
+    (Role::Disk, "host_begins"),
+    (Role::Schedule, "host_begins"),
+    (Role::Report, "host_begins"),
+    (Role::Out, "host_begins"),
+];
+
+// Whether a begin fails, and the role is not begun then.
+fn begins_nothing<H: Host>(host: &mut H, role: Role, name: &'static str) -> bool {
+    Begin(role, name, Err(Failed)).goes(host) && Length(role, Err(Failed)).goes(host)
+}
+
+// Nothing is made by a begin that fails: the folder of the test is empty at the end.
 #[test]
 fn begins_that_fail(rt: HostRuntime) -> Result<(), Fail> {
-    let cases = [
-        (Role::Image, "host_begins/missing"),
-        (Role::Disk, "host_begins/missing"),
-        (Role::Schedule, "host_begins/missing"),
-        (Role::Image, "host_begins/missing/file"),
-        (Role::Disk, "host_begins/missing/file"),
-        (Role::Schedule, "host_begins/missing/file"),
-        (Role::Report, "host_begins/missing/file"),
-        (Role::Out, "host_begins/missing/file"),
-        (Role::Image, "host_begins"),
-        (Role::Disk, "host_begins"),
-        (Role::Schedule, "host_begins"),
-        (Role::Report, "host_begins"),
-        (Role::Out, "host_begins"),
-    ];
     fs::create_dir(&rt, "host_begins")?;
     let mut host = FileHost::new(&rt);
-    for (role, name) in cases {
-        let calls = [Begin(role, name, Err(Failed)), Length(role, Err(Failed))];
-        assert_eq!(rt; first_wrong(&mut host, &calls), None);
+    for (i, &(role, name)) in NO_FILES.iter().enumerate() {
+        assert!(rt; begins_nothing(&mut host, role, name), "row {i}");
     }
     fs::remove_dir(&rt, "host_begins")?;
     Ok(())
 }
 
-// A file that one role has begun is no Report and no Out, under whatever name, and keeps its 10 bytes.
+// The role that begins the file `disk` first, the one that begins it second, and under which name.
+const SECOND_NAMES: [(Role, Role, &str); 7] = [
+    (Role::Disk, Role::Out, "host_names/disk"),
+    (Role::Disk, Role::Out, "host_names/link"),
+    (Role::Disk, Role::Out, "host_names/../host_names/disk"),
+    (Role::Disk, Role::Report, "host_names/disk"),
+    (Role::Disk, Role::Report, "host_names/link"),
+    (Role::Image, Role::Out, "host_names/link"),
+    (Role::Schedule, Role::Report, "host_names/link"),
+];
+
+// Whether a file that one role has begun is not begun by another, and keeps its 10 bytes.
+fn stays_of_first<H: Host>(host: &mut H, first: Role, second: Role, name: &'static str) -> bool {
+    Begin(first, "host_names/disk", Ok(())).goes(host)
+        && Begin(second, name, Err(Failed)).goes(host)
+        && WriteNext(second, b"x", Err(Failed)).goes(host)
+        && Length(first, Ok(10)).goes(host)
+}
+
 #[test]
 fn second_names_of_a_file(rt: HostRuntime) -> Result<(), Fail> {
-    let cases = [
-        (Role::Disk, Role::Out, "host_names/disk"),
-        (Role::Disk, Role::Out, "host_names/link"),
-        (Role::Disk, Role::Out, "host_names/../host_names/disk"),
-        (Role::Disk, Role::Report, "host_names/disk"),
-        (Role::Disk, Role::Report, "host_names/link"),
-        (Role::Image, Role::Out, "host_names/link"),
-        (Role::Schedule, Role::Report, "host_names/link"),
-    ];
     fs::create_dir(&rt, "host_names")?;
     fs::write(&rt, "host_names/disk", b"0123456789")?;
     fs::hard_link(&rt, "host_names/disk", "host_names/link")?;
-    for (first, second, name) in cases {
-        let calls = [
-            Begin(first, "host_names/disk", Ok(())),
-            Begin(second, name, Err(Failed)),
-            WriteNext(second, b"x", Err(Failed)),
-            Length(first, Ok(10)),
-        ];
-        assert_eq!(rt;
-            first_wrong(&mut FileHost::new(&rt), &calls),
-            None,
-            "{first:?} before {second:?} at {name}"
+    for (i, &(first, second, name)) in SECOND_NAMES.iter().enumerate() {
+        assert!(rt;
+            stays_of_first(&mut FileHost::new(&rt), first, second, name),
+            "row {i}"
         );
     }
     fs::remove_file(&rt, "host_names/disk")?;

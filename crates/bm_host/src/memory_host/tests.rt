@@ -57,19 +57,23 @@ fn failures<H: Host>(host: &mut H) -> [bool; 6]
 }
 
 // Of six calls, exactly those fail whose numbers are given; a call that fails has its number too.
+const BY_NUMBER: [([u32; 2], [bool; 6]); 5] = [
+    ([0, 9], [true, false, false, false, false, false]),
+    ([1, 4], [false, true, false, false, true, false]),
+    ([5, 2], [false, false, true, false, false, true]),
+    ([3, 3], [false, false, false, true, false, false]),
+    ([6, 7], [false; 6]),
+];
+
+fn fail_so(alloc: Global, failing: &[u32], fails: &[bool; 6]) -> Result<bool, NoMemory> {
+    let mut host = small_host(alloc, failing, 8)?;
+    Ok(host.contents(Role::Disk).len() == 10 && failures(&mut host) == *fails)
+}
+
 #[test]
 fn calls_fail_by_number(rt: HostRuntime) -> Result<(), Fail> {
-    let cases = [
-        ([0, 9], [true, false, false, false, false, false]),
-        ([1, 4], [false, true, false, false, true, false]),
-        ([5, 2], [false, false, true, false, false, true]),
-        ([3, 3], [false, false, false, true, false, false]),
-        ([6, 7], [false; 6]),
-    ];
-    for (failing, fails) in cases {
-        let mut host = small_host(rt.alloc(), &failing, 8)?;
-        assert!(rt; host.contents(Role::Disk).len() == 10);
-        assert_eq!(rt; failures(&mut host), fails, "where {failing:?} fail");
+    for (i, (failing, fails)) in BY_NUMBER.iter().enumerate() {
+        assert!(rt; fail_so(rt.alloc(), failing, fails)?, "row {i}");
     }
     Ok(())
 }

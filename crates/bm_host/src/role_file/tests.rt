@@ -1,4 +1,5 @@
 use super::{Identity, RoleFile};
+use std::alloc::Global;
 use std::fs::{Metadata, OpenFile};
 use std::io;
 use std::io::{ErrorKind, Read, Seek, SeekFrom, Write};
@@ -77,52 +78,63 @@ fn slow_file(bytes: Vec<u8>, most: usize) -> RoleFile<Slow> {
 // How many bytes the file takes at a time, what is appended, and written at its end, whether that goes well, and what
 // it holds. A file that takes nothing fails a write of bytes, and not one of none; one that takes a byte at a time gets
 // all.
+const WRITES: [(usize, &[u8], bool, &[u8]); 4] = [
+    (0, b"", true, b"0123"),
+    (0, b"ab", false, b"0123"),
+    (1, b"ab", true, b"0123ab"),
+    (4, b"ab", true, b"0123ab"),
+];
+
+fn written_so(
+    alloc: Global,
+    most: usize,
+    from: &[u8],
+    taken: bool,
+    held: &[u8],
+) -> Result<bool, Fail> {
+    let mut appended = slow_file(b"0123".to_vec(alloc)?, most);
+    let mut placed = slow_file(b"0123".to_vec(alloc)?, most);
+    Ok(
+        appended.write_next(from).is_ok() == taken
+            && placed.write_at(4, from).is_ok() == taken
+            && appended.file.bytes.as_slice() == held
+            && placed.file.bytes.as_slice() == held,
+    )
+}
+
 #[test]
 fn writes_in_pieces(rt: HostRuntime) -> Result<(), Fail> {
-    let cases = [
-        (0, b"".as_slice(), true, b"0123".as_slice()),
-        (0, b"ab".as_slice(), false, b"0123".as_slice()),
-        (1, b"ab".as_slice(), true, b"0123ab".as_slice()),
-        (4, b"ab".as_slice(), true, b"0123ab".as_slice()),
-    ];
-    for (most, from, taken, held) in cases {
-        let mut appended = slow_file(b"0123".to_vec(rt.alloc())?, most);
-        let mut placed = slow_file(b"0123".to_vec(rt.alloc())?, most);
-        let answers = [
-            appended.write_next(from).is_ok(),
-            placed.write_at(4, from).is_ok(),
-        ];
-        assert_eq!(rt; answers, [taken; 2], "{most} at a time");
-        for file in [&appended, &placed] {
-            assert_eq!(rt; file.file.bytes.as_slice(), held, "{most} at a time");
-        }
+    for (i, &(most, from, taken, held)) in WRITES.iter().enumerate() {
+        assert!(rt; written_so(rt.alloc(), most, from, taken, held)?, "row {i}");
     }
     Ok(())
 }
 
 // How many bytes the file gives at a time, the place from which 3 of its 4 bytes are read, and whether that fills all.
-// An end inside is an error. After either, the next bytes are the first.
+// An end inside is an error.
+const READS: [(usize, u64, bool); 5] = [
+    (1, 1, true),
+    (1, 2, false),
+    (3, 1, true),
+    (3, 2, false),
+    (0, 1, false),
+];
+
+// Whether the read goes so. The next bytes are the first then, whether it filled all or not.
+fn read_so(alloc: Global, most: usize, place: u64, filled: bool) -> Result<bool, Fail> {
+    let mut file = slow_file(b"0123".to_vec(alloc)?, most);
+    let mut into = [0; 3];
+    let mut next = [b'.'; 1];
+    let first = if most == 0 { b'.' } else { b'0' };
+    let went = file.read_at(place, &mut into).is_ok() == filled && (!filled || into == *b"123");
+    file.read_next(&mut next)?;
+    Ok(went && next == [first])
+}
+
 #[test]
 fn reads_in_pieces(rt: HostRuntime) -> Result<(), Fail> {
-    let cases = [
-        (1, 1, true),
-        (1, 2, false),
-        (3, 1, true),
-        (3, 2, false),
-        (0, 1, false),
-    ];
-    for (most, place, filled) in cases {
-        let mut file = slow_file(b"0123".to_vec(rt.alloc())?, most);
-        let mut into = [0; 3];
-        let answer = file.read_at(place, &mut into);
-        assert_eq!(rt; answer.is_ok(), filled, "{most} at a time, from {place}");
-        if filled {
-            assert_eq!(rt; into, *b"123", "{most} at a time, from {place}");
-        }
-        let mut next = [b'.'; 1];
-        file.read_next(&mut next)?;
-        let first = if most == 0 { b'.' } else { b'0' };
-        assert_eq!(rt; next, [first], "{most} at a time, after {place}");
+    for (i, &(most, place, filled)) in READS.iter().enumerate() {
+        assert!(rt; read_so(rt.alloc(), most, place, filled)?, "row {i}");
     }
     Ok(())
 }
