@@ -17,7 +17,7 @@ pub files_named-push : (files : List (Role × Vec ℕ)) (role : Role) (bytes : V
     (with_value (files_named files) role bytes.items) r
 files_named-push files role bytes r = ap (λ all. value_of all r) (named_onto-push all_empty files (role, bytes))
 
--- so also where vectors were set
+-- a role's vector that has the role's bytes still has them where some role gets a new file
 pub named-set : (named : ByRole (Vec ℕ)) (held : ByRole (List ℕ)) (role : Role) (bytes : Vec ℕ) (r : Role) →
     (value_of named r).items ≡ value_of held r →
     (value_of (with_value named role bytes) r).items ≡ value_of (with_value held role bytes.items) r

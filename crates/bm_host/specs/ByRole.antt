@@ -5,7 +5,7 @@ use Rattle.bm_host.specs.declared.Role.TheVariants.{Image, Disk, Schedule, Repor
 use Rattle.bm_host.specs.declared.by_role.ByRole.{ByRole}
 use Rattle.bm_host.specs.contracts.by_role.ByRole.{the_row}
 
--- the role's value
+-- the value that a role has
 abbrev pub value_of : {T : Type 0} → ByRole T → Role → T
 value_of all Image = all.image
 value_of all Disk = all.disk
@@ -14,7 +14,7 @@ value_of all Report = all.report
 value_of all Out = all.out
 value_of all Console = all.console
 
--- the same, but this role has this value
+-- a value for each role, where this role's is x now
 abbrev pub with_value : {T : Type 0} → ByRole T → Role → T → ByRole T
 with_value all Image x = record all { image = x }
 with_value all Disk x = record all { disk = x }

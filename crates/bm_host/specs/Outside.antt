@@ -26,7 +26,7 @@ abbrev pub faults : Side → Outside → Role → ℕ
 faults Reads o = o.read_faults
 faults Writes o = o.write_faults
 
--- the other count
+-- the count of faults that a role has beside this one
 abbrev pub other : Side → Side
 other Reads = Writes
 other Writes = Reads
@@ -71,17 +71,17 @@ pub record SameBytes (old new : Outside) : Type 0 where
   pub told : (role : Role) → new.told role ≡ old.told role
   pub given : (role : Role) → new.given role ≡ old.given role
 
--- the same of every role but one
+-- what every role but one holds and how much of it was given is as before
 pub record SameElsewhere (role : Role) (old new : Outside) : Type 0 where
   pub told : (r : Role) → r ≢ role → new.told r ≡ old.told r
   pub given : (r : Role) → r ≢ role → new.given r ≡ old.given r
 
--- where a role is told
+-- a property of a role's bytes, where these are told
 abbrev pub IfTold : Option (List ℕ) → (List ℕ → Type 0) → Type 0
 IfTold None P = ⊤
 IfTold (Some bytes) P = P bytes
 
--- what isn't told stays so, and where it is told before and after, the two are in this relation
+-- a role that isn't told stays so, and where it is told before and after, its bytes are in this relation
 abbrev pub Becomes : {A : Type 0} → (A → A → Type 0) → Option A → Option A → Type 0
 Becomes change None None = ⊤
 Becomes change None (Some new) = ⊥

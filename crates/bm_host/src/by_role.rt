@@ -8,18 +8,18 @@ use crate::Role;
 
 /// A value for each role.
 #[derive(Drop)]
-pub struct ByRole<T> {
-    pub image: T,
-    pub disk: T,
-    pub schedule: T,
-    pub report: T,
-    pub out: T,
-    pub console: T,
+pub(crate) struct ByRole<T> {
+    pub(crate) image: T,
+    pub(crate) disk: T,
+    pub(crate) schedule: T,
+    pub(crate) report: T,
+    pub(crate) out: T,
+    pub(crate) console: T,
 }
 
 impl<T> ByRole<T> {
     /// The role's value.
-    pub fn get(&self, role: Role) -> &T
+    pub(crate) fn get(&self, role: Role) -> &T
         ensures { result.now ≡ value_of self.now role }
     {
         match role {
@@ -33,7 +33,7 @@ impl<T> ByRole<T> {
     }
 
     /// The role's value, to be changed.
-    pub fn get_mut(&mut self, role: Role) -> &mut T
+    pub(crate) fn get_mut(&mut self, role: Role) -> &mut T
         ensures* writes_back { sem 𝓛 (LendsValue T.row self.entry role result) }
         ensures value { result.now ≡ value_of self.old role }
     {

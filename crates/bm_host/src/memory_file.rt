@@ -7,14 +7,14 @@ use crate::{Failed, NoMemory, Role};
 
 /// The bytes that one role holds, with the room that its writes may need.
 #[derive(Drop)]
-pub struct MemoryFile {
-    pub bytes: Vec<u8>,
+pub(crate) struct MemoryFile {
+    pub(crate) bytes: Vec<u8>,
 
     /// The number of bytes that `read_next` has given.
-    pub given: usize,
+    pub(crate) given: usize,
 
     /// The number of bytes that a write may leave.
-    pub limit: usize,
+    pub(crate) limit: usize,
 
     ghost within: { given ≤ vec_len bytes },
     ghost room: { limit ≤ vec_capacity bytes },
@@ -24,7 +24,7 @@ impl MemoryFile {
     ghost use Rattle.bm_host.specs.Outside.{Gives, begun, bytes_at, written_at};
 
     /// A file of these bytes. The room for `limit` bytes is taken here.
-    pub fn new(bytes: Vec<u8>, limit: usize) -> Result<MemoryFile, NoMemory>
+    pub(crate) fn new(bytes: Vec<u8>, limit: usize) -> Result<MemoryFile, NoMemory>
         ensures bytes { IfOk result (λ file. file.bytes.items ≡ bytes.items) }
         ensures given { IfOk result (λ file. file.given ≡ 0) }
         ensures limit { IfOk result (λ file. file.limit ≡ limit) }
@@ -39,8 +39,8 @@ impl MemoryFile {
         })
     }
 
-    /// Attaches it to the role once more.
-    pub fn begin(&mut self, role: Role)
+    /// Attaches the file to its role, whose next bytes are the file's first then.
+    pub(crate) fn begin(&mut self, role: Role)
         ensures bytes { self.new.bytes.items ≡ begun role self.old.bytes.items }
         ensures given { self.new.given ≡ 0 }
         ensures limit { self.new.limit ≡ self.old.limit }
@@ -50,7 +50,7 @@ impl MemoryFile {
     }
 
     /// Fills all of `into` with the bytes from `place` on.
-    pub fn read_at(&self, place: u64, into: &mut [u8])
+    pub(crate) fn read_at(&self, place: u64, into: &mut [u8])
         requires { place + length into.old ≤ length self.now.bytes.items }
         ensures { into.new ≡ bytes_at place (length into.old) self.now.bytes.items }
     {
@@ -58,7 +58,7 @@ impl MemoryFile {
     }
 
     /// Fills the front of `into` with the next bytes, and says how many these are.
-    pub fn read_next(&mut self, into: &mut [u8]) -> usize
+    pub(crate) fn read_next(&mut self, into: &mut [u8]) -> usize
         ensures bytes { self.new.bytes.items ≡ self.old.bytes.items }
         ensures given { self.new.given ≡ self.old.given + result }
         ensures limit { self.new.limit ≡ self.old.limit }
@@ -72,7 +72,7 @@ impl MemoryFile {
     }
 
     /// Replaces the bytes from `place` on, where that leaves no more than the limit.
-    pub fn write_at(&mut self, place: u64, from: &[u8]) -> Result<(), Failed>
+    pub(crate) fn write_at(&mut self, place: u64, from: &[u8]) -> Result<(), Failed>
         ensures fits { IsOk result
             ↔ (max (length self.old.bytes.items) (place + length from.now) ≤ self.old.limit) }
         ensures written { OnOk result
@@ -95,7 +95,7 @@ impl MemoryFile {
     }
 
     /// Appends the bytes, where that leaves no more than the limit.
-    pub fn write_next(&mut self, from: &[u8]) -> Result<(), Failed>
+    pub(crate) fn write_next(&mut self, from: &[u8]) -> Result<(), Failed>
         ensures fits { IsOk result
             ↔ (length self.old.bytes.items + length from.now ≤ self.old.limit) }
         ensures written { OnOk result (self.new.bytes.items ≡ self.old.bytes.items ++ from.now) }

@@ -11,7 +11,7 @@ use crate::{NoMemory, Role};
 use std::alloc::Global;
 
 /// The bytes of the last file that names each role, or none.
-pub fn named_files(alloc: Global, files: Vec<(Role, Vec<u8>)>) -> ByRole<Vec<u8>>
+pub(crate) fn named_files(alloc: Global, files: Vec<(Role, Vec<u8>)>) -> ByRole<Vec<u8>>
     ensures { (role : Role) →
         (value_of result role).items ≡ value_of (files_named files.items) role }
 {
@@ -37,7 +37,7 @@ fn name_file(named: &mut ByRole<Vec<u8>>, role: Role, bytes: Vec<u8>)
 }
 
 /// These files, each with the room for what a write may leave in it.
-pub fn with_room(named: ByRole<Vec<u8>>, room: usize) -> Result<ByRole<MemoryFile>, NoMemory>
+pub(crate) fn with_room(named: ByRole<Vec<u8>>, room: usize) -> Result<ByRole<MemoryFile>, NoMemory>
     ensures bytes { IfOk result (λ files. (role : Role) →
         (value_of files role).bytes.items ≡ (value_of named role).items) }
     ensures given { IfOk result (λ files. (role : Role) → (value_of files role).given ≡ 0) }

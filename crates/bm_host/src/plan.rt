@@ -5,14 +5,14 @@ ghost use Rattle.bm_host.specs.Outside.{LAST_COUNT};
 
 /// The calls made so far, and the numbers of those that fail. The count stays at its last value.
 #[derive(Drop)]
-pub struct Plan {
-    pub failing: Vec<u32>,
-    pub calls: u64,
+pub(crate) struct Plan {
+    pub(crate) failing: Vec<u32>,
+    pub(crate) calls: u64,
 }
 
 impl Plan {
     /// Counts a call, and says whether it fails.
-    pub fn next_fails(&mut self) -> bool
+    pub(crate) fn next_fails(&mut self) -> bool
         ensures fails { IsTrue result ↔ Contains self.old.failing.items self.old.calls }
         ensures calls { self.new.calls ≡ min (self.old.calls + 1) LAST_COUNT }
         ensures failing { self.new.failing.items ≡ self.old.failing.items }

@@ -9,11 +9,11 @@ use crate::reading::{begin_bytes, copy_at, copy_next};
 
 /// The bytes that one role holds, as long as they are known. A role whose bytes aren't known keeps nothing.
 #[derive(Drop)]
-pub struct QuietFile {
-    pub bytes: Option<Vec<u8>>,
+pub(crate) struct QuietFile {
+    pub(crate) bytes: Option<Vec<u8>>,
 
     /// The number of bytes that `read_next` has given.
-    pub given: usize,
+    pub(crate) given: usize,
 
     ghost within: { ForSome bytes (λ held. given ≤ vec_len held) },
 }
@@ -22,15 +22,15 @@ impl QuietFile {
     ghost use Rattle.bm_host.specs.QuietFile.{bytes_in};
 
     /// A file of these bytes, or one of which nothing is known.
-    pub fn new(bytes: Option<Vec<u8>>) -> QuietFile
+    pub(crate) fn new(bytes: Option<Vec<u8>>) -> QuietFile
         ensures bytes { result.bytes ≡ bytes }
         ensures given { result.given ≡ 0 }
     {
         QuietFile { bytes, given: 0 }
     }
 
-    /// Attaches it to the role once more.
-    pub fn begin(&mut self, role: Role)
+    /// Attaches the file to its role, whose next bytes are the file's first then.
+    pub(crate) fn begin(&mut self, role: Role)
         ensures bytes { bytes_in self.new ≡ option_map (begun role) (bytes_in self.old) }
         ensures given { self.new.given ≡ 0 }
     {
@@ -40,8 +40,8 @@ impl QuietFile {
         }
     }
 
-    /// The number of its bytes.
-    pub fn length(&self) -> u64
+    /// The number of the file's bytes, or 0 where they aren't known.
+    pub(crate) fn length(&self) -> u64
         ensures known { IfTold (bytes_in self.now) (λ bytes. result ≡ length bytes) }
         ensures unknown { IfNone (bytes_in self.now) (result ≡ 0) }
     {
@@ -51,8 +51,8 @@ impl QuietFile {
         }
     }
 
-    /// Fills all of `into` with the bytes from `place` on, or with zeros.
-    pub fn read_at(&self, place: u64, into: &mut [u8])
+    /// Fills all of `into` with the bytes from `place` on, or with zeros where these aren't known.
+    pub(crate) fn read_at(&self, place: u64, into: &mut [u8])
         requires { IfTold (bytes_in self.now)
             (λ bytes. place + length into.old ≤ length bytes) }
         ensures known { IfTold (bytes_in self.now)
@@ -67,7 +67,7 @@ impl QuietFile {
     }
 
     /// Fills the front of `into` with the next bytes, and says how many these are.
-    pub fn read_next(&mut self, into: &mut [u8]) -> usize
+    pub(crate) fn read_next(&mut self, into: &mut [u8]) -> usize
         ensures bytes { self.new.bytes ≡ self.old.bytes }
         ensures given { self.new.given ≡ self.old.given + result }
         ensures room { result ≤ length into.old }
@@ -83,8 +83,8 @@ impl QuietFile {
         count
     }
 
-    /// Its bytes aren't known any more.
-    pub fn forget(&mut self)
+    /// The file's bytes aren't known any more.
+    pub(crate) fn forget(&mut self)
         ensures bytes { bytes_in self.new ≡ None }
         ensures given { self.new.given ≡ self.old.given }
     {

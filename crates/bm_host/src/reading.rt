@@ -6,7 +6,7 @@ ghost use Rattle.bm_host.specs.Outside.{Gives, begun, bytes_at};
 use crate::Role;
 
 /// What a role holds once it is begun: Report and Out are empty.
-pub fn begin_bytes(role: Role, bytes: &mut Vec<u8>)
+pub(crate) fn begin_bytes(role: Role, bytes: &mut Vec<u8>)
     ensures bytes { bytes.new.items ≡ begun role bytes.old.items }
     ensures capacity { vec_capacity bytes.new ≡ vec_capacity bytes.old }
 {
@@ -17,7 +17,7 @@ pub fn begin_bytes(role: Role, bytes: &mut Vec<u8>)
 }
 
 /// Fills all of `into` with the bytes from `place` on.
-pub fn copy_at(bytes: &[u8], place: u64, into: &mut [u8])
+pub(crate) fn copy_at(bytes: &[u8], place: u64, into: &mut [u8])
     requires { place + length into.old ≤ length bytes.now }
     ensures { into.new ≡ bytes_at place (length into.old) bytes.now }
 {
@@ -26,7 +26,7 @@ pub fn copy_at(bytes: &[u8], place: u64, into: &mut [u8])
 }
 
 /// Fills the front of `into` with the bytes from `given` on, and says how many these are.
-pub fn copy_next(bytes: &[u8], given: usize, into: &mut [u8]) -> usize
+pub(crate) fn copy_next(bytes: &[u8], given: usize, into: &mut [u8]) -> usize
     requires { given ≤ length bytes.now }
     ensures room { result ≤ length into.old }
     ensures gives { Gives bytes.now given (length into.old) result into.new }

@@ -16,7 +16,7 @@ pub(crate) struct Identity {
 }
 
 impl Identity {
-    /// Of an open file.
+    /// Which file an open file is.
     pub(crate) fn of(metadata: &Metadata) -> Identity {
         Identity {
             device: metadata.dev(),
@@ -27,7 +27,7 @@ impl Identity {
 
 /// An open file, and where it stands.
 #[derive(Drop)]
-pub struct RoleFile<F> {
+pub(crate) struct RoleFile<F> {
     file: F,
     identity: Identity,
 
@@ -40,8 +40,8 @@ pub struct RoleFile<F> {
 }
 
 impl<F: Read + Write + Seek + OpenFile + Drop> RoleFile<F> {
-    /// A file that was just opened, and stands there.
-    pub fn new(file: F, identity: Identity, stands: SeekFrom) -> RoleFile<F>
+    /// A file that was just opened, and stands where `stands` says.
+    pub(crate) fn new(file: F, identity: Identity, stands: SeekFrom) -> RoleFile<F>
         ensures file { result.file ≡ file }
         ensures identity { result.identity ≡ identity }
         ensures stands { result.stands ≡ Some stands }
@@ -56,14 +56,14 @@ impl<F: Read + Write + Seek + OpenFile + Drop> RoleFile<F> {
     }
 
     /// Which file it is.
-    pub fn identity(&self) -> Identity
+    pub(crate) fn identity(&self) -> Identity
         ensures { result ≡ self.now.identity }
     {
         self.identity
     }
 
-    /// The number of its bytes. A pipe has none, and that is an error.
-    pub fn length(&mut self) -> io::Result<u64>
+    /// The number of the file's bytes. A pipe has none, and that is an error.
+    pub(crate) fn length(&mut self) -> io::Result<u64>
         ensures next { self.new.next ≡ self.old.next }
     {
         self.stands = None;
@@ -71,7 +71,7 @@ impl<F: Read + Write + Seek + OpenFile + Drop> RoleFile<F> {
     }
 
     /// Fills all of `into` from `place` on. A place or an end past the file's end is an error.
-    pub fn read_at(&mut self, place: u64, into: &mut [u8]) -> io::Result<()>
+    pub(crate) fn read_at(&mut self, place: u64, into: &mut [u8]) -> io::Result<()>
         ensures next { self.new.next ≡ self.old.next }
     {
         if into.is_empty() && self.length()? < place {
@@ -83,8 +83,8 @@ impl<F: Read + Write + Seek + OpenFile + Drop> RoleFile<F> {
         Ok(())
     }
 
-    /// Reads on from where the last `read_next` stopped; 0 bytes are its end.
-    pub fn read_next(&mut self, into: &mut [u8]) -> io::Result<usize>
+    /// Reads on from where the last `read_next` stopped; 0 bytes are the file's end.
+    pub(crate) fn read_next(&mut self, into: &mut [u8]) -> io::Result<usize>
         ensures room { IfOk result (λ n. n ≤ length into.old) }
         ensures goes_on { IfOk result (λ n. self.new.next ≡ min (self.old.next + n) LAST_COUNT) }
         ensures err { OnErr result (self.new.next ≡ self.old.next) }
@@ -97,7 +97,7 @@ impl<F: Read + Write + Seek + OpenFile + Drop> RoleFile<F> {
     }
 
     /// Writes all of `from` at `place`. The system fills what lies between the old end and `place` with zeros.
-    pub fn write_at(&mut self, place: u64, from: &[u8]) -> io::Result<()>
+    pub(crate) fn write_at(&mut self, place: u64, from: &[u8]) -> io::Result<()>
         ensures next { self.new.next ≡ self.old.next }
     {
         if from.is_empty() && self.length()? < place {
@@ -110,7 +110,7 @@ impl<F: Read + Write + Seek + OpenFile + Drop> RoleFile<F> {
     }
 
     /// Writes all of `from` at the end.
-    pub fn write_next(&mut self, from: &[u8]) -> io::Result<()>
+    pub(crate) fn write_next(&mut self, from: &[u8]) -> io::Result<()>
         ensures next { self.new.next ≡ self.old.next }
     {
         self.go_to(SeekFrom::End(0))?;

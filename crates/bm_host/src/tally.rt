@@ -10,21 +10,21 @@ use std::io;
 
 /// How often the reads and the writes of a role failed. Each count stays at its last value.
 #[derive(Clone, Copy)]
-pub struct Faults {
-    pub reads: u64,
-    pub writes: u64,
+pub(crate) struct Faults {
+    pub(crate) reads: u64,
+    pub(crate) writes: u64,
 }
 
 /// What a host counts: the faults of each role, and the bytes of Image that were asked for.
 #[derive(Drop)]
-pub struct Tally {
-    pub faults: ByRole<Faults>,
-    pub looked: u64,
+pub(crate) struct Tally {
+    pub(crate) faults: ByRole<Faults>,
+    pub(crate) looked: u64,
 }
 
 impl Tally {
     /// No fault, and nothing was asked for.
-    pub fn new() -> Tally
+    pub(crate) fn new() -> Tally
         ensures { IsFresh (counted result) }
     {
         let none = Faults {
@@ -43,7 +43,7 @@ impl Tally {
     }
 
     /// A read of the role failed.
-    pub fn read_failed(&mut self, role: Role)
+    pub(crate) fn read_failed(&mut self, role: Role)
         ensures rose { OnlyRose Reads role (counted self.old) (counted self.new) }
         ensures looked { self.new.looked ≡ self.old.looked }
     {
@@ -52,7 +52,7 @@ impl Tally {
     }
 
     /// A write of the role failed.
-    pub fn write_failed(&mut self, role: Role)
+    pub(crate) fn write_failed(&mut self, role: Role)
         ensures rose { OnlyRose Writes role (counted self.old) (counted self.new) }
         ensures looked { self.new.looked ≡ self.old.looked }
     {
@@ -61,7 +61,7 @@ impl Tally {
     }
 
     /// A `begin` of the role failed.
-    pub fn begin_failed(&mut self, role: Role)
+    pub(crate) fn begin_failed(&mut self, role: Role)
         ensures rose { OnlyRose (begin_side role) role (counted self.old) (counted self.new) }
         ensures looked { self.new.looked ≡ self.old.looked }
     {
@@ -72,7 +72,7 @@ impl Tally {
     }
 
     /// So many bytes of the role were asked for.
-    pub fn look(&mut self, role: Role, bytes: usize)
+    pub(crate) fn look(&mut self, role: Role, bytes: usize)
         ensures looked { self.new.looked ≡ looked_at role self.old.looked bytes }
         ensures faults { self.new.faults ≡ self.old.faults }
     {
@@ -80,7 +80,7 @@ impl Tally {
     }
 
     /// Counts a fault of the role where a read of it failed.
-    pub fn read_ended<T>(&mut self, role: Role, answer: io::Result<T>) -> Result<T, Failed>
+    pub(crate) fn read_ended<T>(&mut self, role: Role, answer: io::Result<T>) -> Result<T, Failed>
         ensures cause { Counted Reads role (counted self.old) (counted self.new) result }
         ensures looked { self.new.looked ≡ self.old.looked }
         ensures ok { IfOk result (λ value. answer ≡ Ok value) }
@@ -96,7 +96,7 @@ impl Tally {
     }
 
     /// Counts a fault of the role where a write of it failed.
-    pub fn write_ended(&mut self, role: Role, answer: io::Result<()>) -> Result<(), Failed>
+    pub(crate) fn write_ended(&mut self, role: Role, answer: io::Result<()>) -> Result<(), Failed>
         ensures cause { Counted Writes role (counted self.old) (counted self.new) result }
         ensures looked { self.new.looked ≡ self.old.looked }
         ensures fails { is_err result ≡ is_err answer }
@@ -112,7 +112,7 @@ impl Tally {
 }
 
 /// The bytes of Image that were asked for, once so many more of the role are.
-pub fn looked_after(looked: u64, role: Role, bytes: usize) -> u64
+pub(crate) fn looked_after(looked: u64, role: Role, bytes: usize) -> u64
     ensures { result ≡ looked_at role looked bytes }
 {
     match role {

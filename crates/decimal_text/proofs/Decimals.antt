@@ -17,7 +17,7 @@ pub decimal_of : (digits : List ℕ) → IsDecimal digits → digits_value 10 di
     → digits ≡ decimal (digits_value 10 digits)
 decimal_of digits (numeral, single) small = sym (decimal-digits_value own digits numeral.1 numeral.0 single small)
 
--- and the text of a number is a decimal, of that value
+-- the text of a number is a decimal, whose value is the number
 pub decimal_told : (n : ℕ) → n < 2 ^ 64 → IsDecimal (decimal n) × (digits_value 10 (decimal n) ≡ n)
 decimal_told zero small =
     let told = decimal_is_IsNumeral 0 small in
@@ -31,7 +31,7 @@ decimal_told (suc n) small =
 pub no_decimal : (text : List ℕ) → ¬ IsDecimal text → (n : ℕ) → n < 2 ^ 64 → text ≡ decimal n → ⊥
 no_decimal text refused n small is = refused (subst IsDecimal (sym is) (decimal_told n small).0)
 
--- nor is one whose value is too large
+-- a text that is a number's has that number as its value
 pub value_told : (text : List ℕ) (n : ℕ) → n < 2 ^ 64 → text ≡ decimal n → digits_value 10 text ≡ n
 value_told text n small is = ap (digits_value 10) is ∙ (decimal_told n small).1
 
