@@ -3,7 +3,8 @@
 ghost use Rattle.std.specs.Prelude.{◌≡◌, ◌<◌, ◌^◌, ◌&&◌, true, false, not};
 ghost use Rattle.ata_taskfile.specs.declared.Phase.TheVariants.{Busy};
 ghost use Rattle.ata_taskfile.specs.TaskFile.{masks_line};
-ghost use Rattle.ata_taskfile.specs.Device.{line_read};
+ghost use Rattle.ata_taskfile.specs.Device.{Device, line_read};
+ghost use Rattle.ata_taskfile.specs.Accesses.{Reaches};
 ghost use Rattle.port_lease.specs.Free.{is_free, shows_rest};
 ghost use Rattle.port_lease.specs.Sides.{view_held, has_own};
 ghost use Rattle.own_pio.specs.Job.{command_of, job_order};
@@ -47,6 +48,8 @@ impl Dummy {
         ensures own { has_own side.new ≡ true }
         ensures view { view_held side.new ≡ view_held side.old }
         ensures rest { P.rest ports.new ≡ P.rest ports.old }
+        ensures reached { (origin : Device) → Reaches origin (P.device ports.old)
+            → Reaches origin (P.device ports.new) }
     {
         let masked = has_bit(NIEN, side.view().file.control);
         side.own_begins();
@@ -81,6 +84,8 @@ impl Dummy {
         ensures own { has_own side.new ≡ (not result && has_own side.old) }
         ensures view { view_held side.new ≡ view_held side.old }
         ensures rest { P.rest ports.new ≡ P.rest ports.old }
+        ensures reached { (origin : Device) → Reaches origin (P.device ports.old)
+            → Reaches origin (P.device ports.new) }
     {
         if !ports.pending() {
             return false;
@@ -105,6 +110,8 @@ impl Dummy {
         ensures line { line_read (P.device ports.new) ≡ false }
         ensures side { side.new ≡ side.old }
         ensures rest { P.rest ports.new ≡ P.rest ports.old }
+        ensures reached { (origin : Device) → Reaches origin (P.device ports.old)
+            → Reaches origin (P.device ports.new) }
     {
         self.cancelled = true;
         ports.write8(Reg::Alternate, NIEN);

@@ -2,7 +2,8 @@
 
 ghost use Rattle.std.specs.Prelude.{◌≡◌, true};
 ghost use Rattle.ata_taskfile.specs.declared.Phase.TheVariants.{Idle};
-ghost use Rattle.ata_taskfile.specs.Device.{with_phase};
+ghost use Rattle.ata_taskfile.specs.Device.{Device, with_phase};
+ghost use Rattle.ata_taskfile.specs.Accesses.{Reaches};
 ghost use Rattle.own_pio.specs.Moving.{IsGivenWhole, phase_left};
 ghost use Rattle.dummy_read.specs.Dummy.{sector_of, is_cancelled};
 ghost use Rattle.dummy_read.specs.Flight.{IsInFlight};
@@ -19,6 +20,8 @@ impl Dummy {
         requires pending { (P.device ports.old).file.pending ≡ true }
         ensures after { P.device ports.new ≡ with_phase Idle (P.device ports.old) }
         ensures rest { P.rest ports.new ≡ P.rest ports.old }
+        ensures reached { (origin : Device) → Reaches origin (P.device ports.old)
+            → Reaches origin (P.device ports.new) }
     {
         if has_bit(DRQ, ports.read8(Reg::Alternate)) {
             drop_block(ports);
@@ -32,6 +35,8 @@ fn drop_block<P: Ports>(ports: &mut P)
     ensures after { let d = P.device ports.old in
         P.device ports.new ≡ with_phase (phase_left d.file.phase 0) d }
     ensures rest { P.rest ports.new ≡ P.rest ports.old }
+    ensures reached { (origin : Device) → Reaches origin (P.device ports.old)
+        → Reaches origin (P.device ports.new) }
 {
     for _ in 0..BLOCK_WORDS {
         ports.read_word();

@@ -1,6 +1,8 @@
 //! The registers of an own command.
 
 ghost use Rattle.std.specs.Prelude.{◌≡◌, true, false};
+ghost use Rattle.ata_taskfile.specs.Device.{Device};
+ghost use Rattle.ata_taskfile.specs.Accesses.{Reaches};
 ghost use Rattle.ata_taskfile.specs.declared.registers.TheConstants.{DEV};
 ghost use Rattle.ata_taskfile.specs.TaskFile.{has_bit};
 ghost use Rattle.port_lease.specs.Free.{is_free};
@@ -21,6 +23,8 @@ pub(crate) fn command_job<P: Ports>(side: &mut MonitorSide, ports: &mut P, job: 
     ensures begun { IsBegun true job (P.device ports.old) (P.device ports.new) }
     ensures side { side.new ≡ side.old }
     ensures rest { P.rest ports.new ≡ P.rest ports.old }
+    ensures reached { (origin : Device) → Reaches origin (P.device ports.old)
+        → Reaches origin (P.device ports.new) }
 {
     match job {
         OwnJob::Read(first, count) => command_read(side, ports, true, first, count),
@@ -44,6 +48,8 @@ pub fn command_read<P: Ports>(
         (P.device ports.old) (P.device ports.new) }
     ensures side { side.new ≡ side.old }
     ensures rest { P.rest ports.new ≡ P.rest ports.old }
+    ensures reached { (origin : Device) → Reaches origin (P.device ports.old)
+        → Reaches origin (P.device ports.new) }
 {
     put_nien(side, ports, masked);
     name_sectors(side, ports, first, count);
@@ -59,6 +65,8 @@ fn command_write<P: Ports>(side: &mut MonitorSide, ports: &mut P, first: u64, co
         (P.device ports.old) (P.device ports.new) }
     ensures side { side.new ≡ side.old }
     ensures rest { P.rest ports.new ≡ P.rest ports.old }
+    ensures reached { (origin : Device) → Reaches origin (P.device ports.old)
+        → Reaches origin (P.device ports.new) }
 {
     put_nien(side, ports, true);
     name_sectors(side, ports, first, count);
@@ -72,6 +80,8 @@ fn command_flush<P: Ports>(side: &mut MonitorSide, ports: &mut P)
         (P.device ports.old) (P.device ports.new) }
     ensures side { side.new ≡ side.old }
     ensures rest { P.rest ports.new ≡ P.rest ports.old }
+    ensures reached { (origin : Device) → Reaches origin (P.device ports.old)
+        → Reaches origin (P.device ports.new) }
 {
     put_nien(side, ports, true);
     side.put_command(ports, FLUSH_CACHE);
@@ -84,6 +94,8 @@ fn put_nien<P: Ports>(side: &mut MonitorSide, ports: &mut P, masked: bool)
         P.device ports.new ≡ record d { file = record d.file { control = nien_of masked } } }
     ensures side { side.new ≡ side.old }
     ensures rest { P.rest ports.new ≡ P.rest ports.old }
+    ensures reached { (origin : Device) → Reaches origin (P.device ports.old)
+        → Reaches origin (P.device ports.new) }
 {
     side.put_control(ports, if masked { NIEN } else { 0 });
 }
@@ -97,6 +109,8 @@ fn name_sectors<P: Ports>(side: &mut MonitorSide, ports: &mut P, first: u64, cou
     ensures selected { has_bit DEV (P.device ports.new).file.device ≡ false }
     ensures side { side.new ≡ side.old }
     ensures rest { P.rest ports.new ≡ P.rest ports.old }
+    ensures reached { (origin : Device) → Reaches origin (P.device ports.old)
+        → Reaches origin (P.device ports.new) }
 {
     side.put_register(ports, Reg::Count, count as u8);
     side.put_register(ports, Reg::Low, (first % 256) as u8);

@@ -1,7 +1,8 @@
 //! A block that goes through Data.
 
 ghost use Rattle.std.specs.Prelude.{◌≡◌, ◌+◌, ◌≤◌, length};
-ghost use Rattle.ata_taskfile.specs.Device.{with_phase};
+ghost use Rattle.ata_taskfile.specs.Device.{Device, with_phase};
+ghost use Rattle.ata_taskfile.specs.Accesses.{Reaches};
 ghost use Rattle.plain_drive.specs.Words.{bytes_of};
 ghost use Rattle.own_pio.specs.Moving.{IsGivenWhole, IsWantedWhole, phase_left, phase_wanted, put_over, words_at};
 
@@ -19,6 +20,8 @@ pub(crate) fn take_block<P: Ports>(ports: &mut P, bytes: &mut [u8], start: usize
     ensures after { let d = P.device ports.old in
         P.device ports.new ≡ with_phase (phase_left d.file.phase 0) d }
     ensures rest { P.rest ports.new ≡ P.rest ports.old }
+    ensures reached { (origin : Device) → Reaches origin (P.device ports.old)
+        → Reaches origin (P.device ports.new) }
 {
     for i in 0..WORDS {
         let [low, high] = ports.read_word().to_le_bytes();
@@ -35,6 +38,8 @@ pub(crate) fn put_block<P: Ports>(ports: &mut P, bytes: &[u8], start: usize)
         ≡ with_phase (phase_wanted d.file.phase 0)
         (record d { block = words_at BLOCK_WORDS start bytes.now }) }
     ensures rest { P.rest ports.new ≡ P.rest ports.old }
+    ensures reached { (origin : Device) → Reaches origin (P.device ports.old)
+        → Reaches origin (P.device ports.new) }
 {
     for i in 0..WORDS {
         ports.write_word(u16::from_le_bytes([bytes[start + 2 * i], bytes[start + 2 * i + 1]]));

@@ -1,6 +1,8 @@
 //! An own command, from its begin to its end.
 
 ghost use Rattle.std.specs.Prelude.{◌≤◌};
+ghost use Rattle.ata_taskfile.specs.Device.{Device};
+ghost use Rattle.ata_taskfile.specs.Accesses.{Reaches};
 ghost use Rattle.own_pio.specs.Job.{IsFit, polls_of};
 
 use crate::commands::command_job;
@@ -55,6 +57,8 @@ impl Own {
         ensures own { has_own side.new ≡ true }
         ensures view { view_held side.new ≡ view_held side.old }
         ensures rest { P.rest ports.new ≡ P.rest ports.old }
+        ensures reached { (origin : Device) → Reaches origin (P.device ports.old)
+            → Reaches origin (P.device ports.new) }
     {
         side.own_begins();
         command_job(side, ports, job);
@@ -101,6 +105,8 @@ impl Own {
         ensures unseen { IsUnseen (P.device ports.old) (P.device ports.new) }
         ensures view { view_held side.new ≡ view_held side.old }
         ensures rest { P.rest ports.new ≡ P.rest ports.old }
+        ensures reached { (origin : Device) → Reaches origin (P.device ports.old)
+            → Reaches origin (P.device ports.new) }
     {
         let poll = poll_drive(self.job, self.left, side, ports, bytes);
         self.left = left_after(poll, self.left);

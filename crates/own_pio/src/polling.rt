@@ -1,7 +1,8 @@
 //! One poll of an own command.
 
 ghost use Rattle.std.specs.Prelude.{◌≡◌, ◌<◌, ◌≤◌, ◌*◌, ◌&&◌, ℕ, List, true, false, length};
-ghost use Rattle.ata_taskfile.specs.Device.{Cell};
+ghost use Rattle.ata_taskfile.specs.Device.{Device, Cell};
+ghost use Rattle.ata_taskfile.specs.Accesses.{Reaches};
 ghost use Rattle.own_pio.specs.Kept.{IsDoneSoFar, Leaves};
 ghost use Rattle.ata_taskfile.specs.TaskFile.{has_bit, status};
 ghost use Rattle.port_lease.specs.Free.{is_free};
@@ -67,6 +68,8 @@ pub(crate) fn poll_drive<P: Ports>(
     ensures unseen { IsUnseen (P.device ports.old) (P.device ports.new) }
     ensures side { side.new ≡ side.old }
     ensures rest { P.rest ports.new ≡ P.rest ports.old }
+    ensures reached { (origin : Device) → Reaches origin (P.device ports.old)
+        → Reaches origin (P.device ports.new) }
 {
     let status = acknowledge(side, ports);
     if has_bit(BSY, status) {
@@ -89,6 +92,8 @@ pub fn acknowledge<P: Ports>(side: &mut MonitorSide, ports: &mut P) -> u8
         P.device ports.new ≡ record d { file = record d.file { pending = false } } }
     ensures side { side.new ≡ side.old }
     ensures rest { P.rest ports.new ≡ P.rest ports.old }
+    ensures reached { (origin : Device) → Reaches origin (P.device ports.old)
+        → Reaches origin (P.device ports.new) }
 {
     ports.read8(Reg::Status)
 }
@@ -115,6 +120,8 @@ fn move_block<P: Ports>(job: OwnJob, left: u32, ports: &mut P, bytes: &mut [u8])
         → Leaves result job left bytes.new start origin (P.device ports.new) }
     ensures unseen { IsUnseen (P.device ports.old) (P.device ports.new) }
     ensures rest { P.rest ports.new ≡ P.rest ports.old }
+    ensures reached { (origin : Device) → Reaches origin (P.device ports.old)
+        → Reaches origin (P.device ports.new) }
 {
     match job {
         OwnJob::Read(_, count) => {

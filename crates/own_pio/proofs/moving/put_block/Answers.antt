@@ -7,6 +7,7 @@ loop-i-init g c = (
   before_written c.args.start c.args.bytes.now (g.P.Ports.device c.args.ports.now)
       c.requires.wanted,
   refl,
+  λ origin reaches. reaches,
 )
 
 pub loop-i-preserved : goal.loop-i-preserved
@@ -18,4 +19,5 @@ loop-i-preserved g c =
           (g.P.Ports.device c.args.ports.now) (g.P.Ports.device c.loop-i.ports) (omega arith) c.requires.room
           c.requires.wanted.wanted word c.loop-i.invariant.0,
       c.write_word.ensures.rest ∙ c.loop-i.invariant.1,
+      λ origin reaches. c.write_word.ensures.reached origin (c.loop-i.invariant.2 origin reaches),
     )

@@ -9,6 +9,7 @@ loop-i-init g c = (
   sym
       (over_none c.args.start c.args.bytes.now),
   refl,
+  λ origin reaches. reaches,
 )
 
 pub loop-i-preserved : goal.loop-i-preserved
@@ -25,4 +26,5 @@ loop-i-preserved g c =
       word_over c.loop-i.i c.args.start _ _ d.block c.args.bytes.now c.loop-i.bytes c.requires.given.whole
           (omega arith) c.requires.room low high so_far.1,
       c.read_word.ensures.rest ∙ so_far.2,
+      λ origin reaches. c.read_word.ensures.reached origin (so_far.3 origin reaches),
     )
