@@ -7,9 +7,10 @@ use crate::Drive;
 use crate::identify::identity;
 use crate::runs::bench::Bench;
 use ata_taskfile::Access::{Line, Read8, ReadPointer, ReadWord, Write8, WritePointer, WriteWord};
+use ata_taskfile::registers::SECTOR_BYTES;
 use ata_taskfile::{Access, Answer, Ports, Reg, Step, Stepped, perform};
 use bm_dma::GuestMemory;
-use drive_store::{MemoryStore, SECTOR_BYTES, Store};
+use drive_store::{MemoryStore, Store};
 use std::alloc::{AllocError, Global};
 use std::test::Fail;
 

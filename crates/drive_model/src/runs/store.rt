@@ -3,7 +3,8 @@
 ghost use Rattle.std.specs.Prelude.{◌≡◌};
 ghost use Rattle.drive_store.specs.FailingStore.{sectors_behind, faults_so_far};
 
-use drive_store::{FailingStore, MemoryStore, SECTOR_BYTES, Store, StoreFault};
+use ata_taskfile::registers::SECTOR_BYTES;
+use drive_store::{FailingStore, MemoryStore, Store, StoreFault};
 use std::alloc::{AllocError, Global};
 
 // That there are four is a fact of its type, so a sector below 4 is one of the drive's.
