@@ -39,7 +39,8 @@ concat-more list i below = rw (take_more list i []) (concat-append (take i list)
 
 pub WritesFront-more : (old now new : Outside) (before mid after : Physical) (waiting more : List ℕ) (i : ℕ)
     → i < length before.kept.durable
-    → WritesFront old now before mid waiting i → SameCounts now new → KeepsFilesBut Out now new → KeepsLooked now new → after ≡ mid
+    → WritesFront old now before mid waiting i → SameCounts now new → KeepsFilesBut Out now new
+    → KeepsLooked now new → after ≡ mid
     → ((text : List ℕ) → Waits Out waiting now text → Waits Out more new (text ++ slice_index_or mid.kept.durable i []))
     → WritesFront old new before after more (i + 1)
 WritesFront-more old now new before mid after waiting more i below so counts files looked same waits = record {

@@ -38,8 +38,8 @@ TakesFront-push from mid to old now new front byte so counts files looked said t
 }
 
 -- bytes of the block more were taken
-pub TakesFront-more : (from mid to : Streams) (old now : Outside) (line longer : List ℕ) → TakesFront from mid old now line
-    → TakesBytes mid to line longer → TakesFront from to old now longer
+pub TakesFront-more : (from mid to : Streams) (old now : Outside) (line longer : List ℕ)
+    → TakesFront from mid old now line → TakesBytes mid to line longer → TakesFront from to old now longer
 TakesFront-more from mid to old now line longer so more = record {
   counts = so.counts;
   files = so.files;

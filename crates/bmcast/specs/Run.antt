@@ -59,7 +59,8 @@ pub record DoneRun (memory : ℕ) (old new : Outside) : Type 0 where
       → slice_index_or was.end.physical.kept.durable s [] ≡ slice_index_or was.sectors s []
 
 -- the run ended at a bad line, whose number and kind are those of the schedule's first:
-pub record BadLineRun (memory : ℕ) (old new : Outside) (number : ℕ) (kind : LineFault) : Type 0 where
+pub record BadLineRun (memory : ℕ) (old new : Outside) (number : ℕ)
+    (kind : LineFault) : Type 0 where
   pub was : WasRun memory old
   -- the lines before it are those of these events, and it is the first that isn't one, for this fault
   pub schedule : IfTold (old.told Schedule)

@@ -43,7 +43,8 @@ pub(crate) fn load<H: Host>(
     ensures bytes { SameBytes (H.outside host.old) (H.outside host.new) }
     ensures began { IfOk result (λ machine.
         physical machine ≡ drive_over memory (physical machine).kept.durable) }
-    ensures count { IfOk result (λ machine. length (physical machine).kept.durable ≡ size / SECTOR_BYTES) }
+    ensures count { IfOk result (λ machine.
+        length (physical machine).kept.durable ≡ size / SECTOR_BYTES) }
     ensures sectors { IfOk result (λ machine.
         All (λ sector. length sector ≡ SECTOR_BYTES) (physical machine).kept.durable) }
     ensures disk { IfOk result (λ machine. IfTold ((H.outside host.old).told Disk)
@@ -65,7 +66,8 @@ pub(crate) fn load<H: Host>(
 // Reads all sectors of the disk.
 fn read_disk<H: Host>(host: &mut H, store: &mut MemoryStore) -> Result<(), Stop>
     requires few { SECTOR_BYTES * length (list_of store.old) < 2 ^ 64 }
-    requires told { HasLength Disk (H.outside host.old) (SECTOR_BYTES * length (list_of store.old)) }
+    requires told { HasLength Disk (H.outside host.old)
+        (SECTOR_BYTES * length (list_of store.old)) }
     ensures stops { IfErr result (StopsAt loading) }
     ensures looked { KeepsLooked (H.outside host.old) (H.outside host.new) }
     ensures counts { IsCounted result (H.outside host.old) (H.outside host.new) }
@@ -84,7 +86,8 @@ fn read_disk<H: Host>(host: &mut H, store: &mut MemoryStore) -> Result<(), Stop>
 fn read_sector<H: Host>(host: &mut H, store: &mut MemoryStore, sector: u64) -> Result<(), Stop>
     requires within { sector < length (list_of store.old) }
     requires few { SECTOR_BYTES * length (list_of store.old) < 2 ^ 64 }
-    requires told { HasLength Disk (H.outside host.old) (SECTOR_BYTES * length (list_of store.old)) }
+    requires told { HasLength Disk (H.outside host.old)
+        (SECTOR_BYTES * length (list_of store.old)) }
     ensures stops { IfErr result (StopsAt loading) }
     ensures looked { KeepsLooked (H.outside host.old) (H.outside host.new) }
     ensures counts { IsCounted result (H.outside host.old) (H.outside host.new) }

@@ -51,7 +51,8 @@ impl Machine {
         ensures bytes { into.new
             ≡ bytes_of (words_read (length into.old / 2) (device self.old)) }
         ensures after { physical self.new
-            ≡ with_device (after_words (length into.old / 2) (device self.old)) (physical self.old) }
+            ≡ with_device (after_words (length into.old / 2) (device self.old))
+            (physical self.old) }
     {
         self.drive.read_words(into);
     }
@@ -60,7 +61,8 @@ impl Machine {
     #[tactic(auto, using(crate::proofs::Machines::reached))]
     pub fn write_words(&mut self, bytes: &[u8])
         ensures after { physical self.new
-            ≡ with_device (after_written (words_of bytes.now) (device self.old)) (physical self.old) }
+            ≡ with_device (after_written (words_of bytes.now) (device self.old))
+            (physical self.old) }
     {
         self.drive.write_words(bytes);
     }

@@ -17,7 +17,8 @@ all_reversed P (x ∷ xs) all = subst (All P) (sym (reverse_onto xs x []))
     (All-push P (reverse xs) x (all_reversed P xs (All-tail P x xs all)) (All-head P x xs all))
 
 -- the values that entries of sectors give a sector are a sector's
-values_whole : (sector : ℕ) (entries : List Entry) → AreSectors entries → All IsSector (values_of sector entries)
+values_whole : (sector : ℕ) (entries : List Entry) → AreSectors entries
+    → All IsSector (values_of sector entries)
 values_whole sector entries whole =
     let bytes : Entry → List ℕ = λ entry. entry.bytes in
     all_reversed IsSector (map bytes (entries_of sector entries))
@@ -29,12 +30,15 @@ cells_whole : (sector : ℕ) (entries : List Entry) (durable : List (List ℕ)) 
 cells_whole sector entries [] whole all = All-nil HoldsSector
 cells_whole sector entries (value ∷ durable) whole all =
     All-cons HoldsSector _ (cells_from (suc sector) entries durable)
-    (record { durable = All-head IsSector value durable all; written = values_whole sector entries whole })
+    (record {
+      durable = All-head IsSector value durable all;
+      written = values_whole sector entries whole;
+    })
     (cells_whole (suc sector) entries durable whole (All-tail IsSector value durable all))
 
 -- a store that doesn't tell its sectors has no cells
-pub cells_hold : (entries : List Entry) (count : ℕ) (told : Option (List (List ℕ))) → AreSectors entries
-    → IfSome told (λ list. IsListOf count list)
+pub cells_hold : (entries : List Entry) (count : ℕ) (told : Option (List (List ℕ)))
+    → AreSectors entries → IfSome told (λ list. IsListOf count list)
     → All HoldsSector (cells_from 0 entries (list_told told))
 cells_hold entries count None whole all = All-nil HoldsSector
 cells_hold entries count (Some list) whole all = cells_whole 0 entries list whole all.values

@@ -17,8 +17,8 @@ use port_lease::{MonitorSide, power_on};
 use std::alloc::{AllocError, Global};
 use std::test::Fail;
 
-// What happens before a poll: a step of the drive, its oldest entry is made durable, or the one and then the other. So a
-// destage may also find a block in Data, or wanted there.
+// What happens before a poll: a step of the drive, its oldest entry is made durable, or the one and then the other. So
+// a destage may also find a block in Data, or wanted there.
 #[derive(Clone, Copy, Debug)]
 enum Before {
     Nothing,
@@ -178,9 +178,10 @@ const WRITE: [(Before, Poll); 3] = [
     (Steps(Good), Done),
 ];
 
-// The turns of a read of sectors 1 and 2, in which A1B1h and A2B2h were written over 1234h and ABCDh, and aren't durable
-// yet; the words that were read, where a sector that wasn't leaves 0; and the durable words after it. A failure comes
-// before the first block, or behind it. Each destage makes the older one durable, and the read sees nothing of it.
+// The turns of a read of sectors 1 and 2, in which A1B1h and A2B2h were written over 1234h and ABCDh, and aren't
+// durable yet; the words that were read, where a sector that wasn't leaves 0; and the durable words after it. A
+// failure comes before the first block, or behind it. Each destage makes the older one durable, and the read sees
+// nothing of it.
 const READS: [(Turns, [u16; 2], [u16; 2]); 7] = [
     (
         &[

@@ -11,7 +11,8 @@ use Rattle.plain_drive.proofs.Blocks.{block_bytes}
 -- each value of a cell is a sector's
 pub values_held : (cell : Cell) (value : List ℕ) → HoldsSector cell → Contains (values cell) value → IsSector value
 values_held cell value holds contains = All-contains IsSector (values cell) value
-    (All-append IsSector cell.written (cell.durable ∷ []) holds.written (All-cons IsSector cell.durable [] holds.durable (All-nil IsSector))) contains
+    (All-append IsSector cell.written (cell.durable ∷ []) holds.written
+    (All-cons IsSector cell.durable [] holds.durable (All-nil IsSector))) contains
 
 newest_held : (durable : List ℕ) (written : List (List ℕ)) → IsSector durable → All IsSector written
     → IsSector (slice_index_or written 0 durable)

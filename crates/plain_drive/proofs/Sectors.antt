@@ -1,5 +1,5 @@
 -- Bytes as sectors, one after the other.
-use Rattle.std.proofs.Common.{◌≡◌, ◌+◌, ◌*◌, ◌++◌, ℕ, zero, suc, List, [], ◌∷◌, length, take, drop, All, refl, ap, ◌∙◌, arith, length-append}
+use Rattle.std.proofs.Common.{◌≡◌, ◌+◌, ◌*◌, ◌++◌, ℕ, ◌<◌, zero, suc, List, [], ◌∷◌, length, take, drop, slice_index_or, All, refl, ap, ◌∙◌, arith, length-append}
 use Rattle.std.specs.List.{concat}
 use Rattle.std.proofs.lemmas.List.{drop-drop, take_at, drop_at}
 use Rattle.plain_drive.specs.Plain.{sectors_in}
@@ -17,6 +17,16 @@ sectors_in-more n bytes = let more : n + 1 ≡ suc n = omega arith in rw more (l
         ap (λ rest. take 512 bytes ∷ rest)
         (last n (drop 512 bytes) ∙ ap (λ xs. sectors_in n (drop 512 bytes) ++ take 512 xs ∷ [])
         (drop-drop (n * 512) 512 bytes ∙ ap (λ i. drop i bytes) place))
+
+-- a sector is the bytes at its place
+pub sector_of_bytes : (n s : ℕ) (bytes : List ℕ) → s < n
+    → slice_index_or (sectors_in n bytes) s [] ≡ take 512 (drop (512 * s) bytes)
+sector_of_bytes zero s bytes below = absurd (omega arith)
+sector_of_bytes (suc n) zero bytes below = refl
+sector_of_bytes (suc n) (suc s) bytes below =
+    let place : 512 + 512 * s ≡ 512 * suc s = omega arith in
+    sector_of_bytes n s (drop 512 bytes) (omega arith)
+    ∙ ap (λ xs. take 512 xs) (drop-drop (512 * s) 512 bytes ∙ ap (λ i. drop i bytes) place)
 
 -- every sector is whole but the first
 behind_first : (sector : List ℕ) (list : List (List ℕ)) → All (λ sector. length sector ≡ 512) (sector ∷ list)

@@ -40,7 +40,7 @@ pub use alike::{
     accesses_keep_drives_alike, alike_drives_answer_alike, likeness_is_mutual,
     nothing_looks_at_the_last_command, steps_keep_drives_alike,
 };
-pub use bytes::{sectors_are_held_whole, words_and_bytes_undo_each_other};
+pub use bytes::{a_sector_is_its_bytes, sectors_are_held_whole, words_and_bytes_undo_each_other};
 pub use caching::{a_physical_drive_is_seen, ends_forget_older_values, ends_of_cells_are_kept};
 
 /// A value that is written is the current one of its sector, and the other sectors keep all of theirs.

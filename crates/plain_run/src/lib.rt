@@ -3,8 +3,8 @@
 //! Start with `specs/Entry.antt`, an event with what the report says of it, then `specs/Guest.antt` for what a guest
 //! does in an event, `specs/Event.antt` for one event of a plain drive and `specs/Run.antt` for a whole run of a drive
 //! that has no monitor. `specs/Plan.antt` says what a plan makes of a drive, `specs/Taken.antt` where a report tells
-//! that the drive took a command, and `specs/Written.antt` which sectors such lines name as written. The functions below are laws that show what the
-//! definitions mean; `docs/drive.md` has the same in words.
+//! that the drive took a command, and `specs/Written.antt` which sectors such lines name as written. The functions
+//! below are laws that show what the definitions mean; `docs/drive.md` has the same in words.
 //!
 //! It has no tests of its own: those of `worked_runs` try its rules over whole runs.
 

@@ -10,7 +10,8 @@ returns-clause-bytes c =
     let room : length c.try_extend_from_slice.new.self.items ≡ 2 * c.args.n = grind (arith, common_steps) in
     let lent = ap length c.as_mut_slice.ensures.value in
     let half : length c.as_mut_slice.result.now / 2 ≡ c.args.n = omega arith in
-    let whole : length c.read_words.new.into ≡ length c.try_extend_from_slice.new.self.items = grind (arith, common_steps) in
+    let whole : length c.read_words.new.into ≡ length c.try_extend_from_slice.new.self.items =
+    grind (arith, common_steps) in
     take_at c.read_words.new.into _ _ whole ∙ c.read_words.ensures.bytes
     ∙ ap (λ (k : ℕ). bytes_of (words_read k (device c.args.machine.now))) half
 

@@ -9,8 +9,8 @@ use Rattle.bmcast.proofs.events.apply.Goals as goal
 
 pub returns-then-not-was_taken : goal.returns-then-not-was_taken
 returns-then-not-was_taken c =
-    let before = ap (λ (f : TaskFile). is_just_taken f.phase) (sym c.file.ensures) ∙ sym c.is_just_taken-was_taken.ensures
-    ∙ c.if-not-was_taken.true in
+    let before = ap (λ (f : TaskFile). is_just_taken f.phase) (sym c.file.ensures)
+    ∙ sym c.is_just_taken-was_taken.ensures ∙ c.if-not-was_taken.true in
     record {
       event = rw (c.note_command.ensures.items, c.note_command.ensures.bytes, c.file-then-not-was_taken.ensures)
           (drive_event_noted _ _ _ (physical c.args.machine.now) (physical c.act.new.machine) c.act.ensures.after
@@ -19,8 +19,8 @@ returns-then-not-was_taken c =
 
 pub returns-else-not-was_taken : goal.returns-else-not-was_taken
 returns-else-not-was_taken c =
-    let before = ap (λ (f : TaskFile). is_just_taken f.phase) (sym c.file.ensures) ∙ sym c.is_just_taken-was_taken.ensures
-    ∙ c.if-not-was_taken.false in
+    let before = ap (λ (f : TaskFile). is_just_taken f.phase) (sym c.file.ensures)
+    ∙ sym c.is_just_taken-was_taken.ensures ∙ c.if-not-was_taken.false in
     record {
       event = drive_event_unnoted _ _ _ (physical c.args.machine.now) (physical c.act.new.machine)
           c.act.ensures.after c.act.ensures.items c.act.ensures.bytes before;
