@@ -6,6 +6,7 @@ use Rattle.bm_host.specs.Outside.{Outside, IfTold}
 use Rattle.plain_drive.specs.Plain.{sectors_in}
 use Rattle.plain_drive.specs.Cut.{IsOutcome, drive_at_power_on}
 use Rattle.plain_drive.specs.Physical.{Physical, StandsFor, fresh, physical_at_power_on}
+use Rattle.drive_model.specs.declared.cached_store.TheConstants.{MOST_ENTRIES}
 use Rattle.schedule_text.specs.Schedule.{IsSchedule}
 use Rattle.schedule_text.specs.declared.LineFault.{LineFault}
 use Rattle.schedule_text.specs.BadLine.{FailsAt}
@@ -21,7 +22,7 @@ sectors_of_disk disk = sectors_in (length disk / SECTOR_BYTES) disk
 -- a drive at power-on over these sectors, all durable, with a guest's memory of so many zeros
 abbrev pub drive_over : ℕ → List (List ℕ) → Physical
 drive_over memory sectors =
-    physical_at_power_on (fresh 64 sectors) (length sectors) (replicate memory 0)
+    physical_at_power_on (fresh MOST_ENTRIES sectors) (length sectors) (replicate memory 0)
 
 -- the same beside the plain drive for which it stands
 abbrev pub drives_over : ℕ → List (List ℕ) → Drives

@@ -11,7 +11,7 @@ use std::alloc::{AllocError, Global};
 use write_cache::Cache;
 
 /// How many written values may wait in the cache (own).
-pub(crate) const MOST_ENTRIES: u32 = 64;
+pub const MOST_ENTRIES: u32 = 64;
 
 /// A store with the entries that were written and aren't durable yet, `MOST_ENTRIES` at most.
 #[derive(Drop)]

@@ -22,4 +22,5 @@ mod steps;
 mod tests;
 mod words;
 
+pub use cached_store::MOST_ENTRIES;
 pub use drive::Drive;

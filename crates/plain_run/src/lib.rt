@@ -11,6 +11,7 @@
 #![tactic(auto)]
 
 ghost use Rattle.std.specs.Prelude.{◌≡◌, ◌↔◌, ℕ, List, [], All, length, slice_index_or, false};
+ghost use Rattle.ata_taskfile.specs.declared.registers.TheConstants.{SECTOR_BYTES};
 ghost use Rattle.plain_drive.specs.Plain.{Plain};
 ghost use Rattle.plain_drive.specs.Physical.{Physical, StandsFor, fresh, physical_at_power_on, seen};
 ghost use Rattle.schedule_text.specs.declared.Event.TheVariants.{Remark};
@@ -67,16 +68,16 @@ pub fn a_run_keeps_the_count_of_sectors()
 pub fn a_run_keeps_sectors_whole()
     ensures { (room : ℕ) (durable : List (List ℕ)) (memory : List ℕ)
         (entries : List Entry) (now : Physical)
-        → All (λ sector. length sector ≡ 512) durable
+        → All (λ sector. length sector ≡ SECTOR_BYTES) durable
         → IsDriveRun (physical_at_power_on (fresh room durable) (length durable) memory) entries now
-        → All (λ sector. length sector ≡ 512) now.kept.durable }
+        → All (λ sector. length sector ≡ SECTOR_BYTES) now.kept.durable }
 {}
 
 /// A sector that no command line of a write names has the durable value that it began with.
 pub fn only_named_sectors_change()
     ensures { (room : ℕ) (durable : List (List ℕ)) (memory : List ℕ)
         (entries : List Entry) (now : Physical)
-        → All (λ sector. length sector ≡ 512) durable
+        → All (λ sector. length sector ≡ SECTOR_BYTES) durable
         → IsDriveRun (physical_at_power_on (fresh room durable) (length durable) memory) entries now
         → (s : ℕ) → is_named s entries ≡ false
         → slice_index_or now.kept.durable s [] ≡ slice_index_or durable s [] }
