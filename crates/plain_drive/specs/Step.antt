@@ -1,5 +1,5 @@
 -- The steps of a plain drive, by the phase of the command in hand.
-use Rattle.std.specs.Prelude.{ℕ, Bool, true, false, not, ◌||◌, ◌+◌, ◌-◌, ◌==◌, if◌then◌else◌, nat_lt, List, []}
+use Rattle.std.specs.Prelude.{ℕ, Bool, true, false, not, ◌||◌, ◌+◌, ◌-◌, ◌==◌, if◌then◌else◌, nat_lt, ◌≡◌, zero, suc, List, []}
 use Rattle.ata_taskfile.specs.declared.Kind.{Kind}
 use Rattle.ata_taskfile.specs.declared.Kind.TheVariants as kind
 use Rattle.ata_taskfile.specs.declared.Form.{Form}
@@ -218,3 +218,13 @@ acts s p = acts_in s p.device.file.phase p
 abbrev pub stepped_if : Bool → Stepped
 stepped_if true = Changed
 stepped_if false = Nothing
+
+-- the plain drive after so many good steps
+abbrev pub went : ℕ → Plain → Plain
+went zero p = p
+went (suc n) p = good_step (went n p)
+
+-- each of so many good steps has an effect
+abbrev pub AllAct : ℕ → Plain → Type 0
+AllAct zero p = Unit {0}
+AllAct (suc n) p = AllAct n p × (acts step.Good (went n p) ≡ true)

@@ -1,10 +1,10 @@
 -- A plan as a relation, and as a function of where it begins.
 use Rattle.std.proofs.Common.{◌≡◌, ℕ, List, [], ◌∷◌}
 use Rattle.plain_drive.specs.Plain.{Plain}
-use Rattle.plain_drive.specs.Step.{bad_step}
+use Rattle.plain_drive.specs.Step.{bad_step, went}
 use Rattle.schedule_text.specs.declared.Item.{Item}
 use Rattle.schedule_text.specs.declared.Item.TheVariants as item
-use Rattle.plain_run.specs.Event.{FollowsPlan, went}
+use Rattle.plain_run.specs.Event.{FollowsPlan}
 use Rattle.plain_run.specs.Plan.{IsPlanned}
 
 pub followed_is_planned : (items : List Item) (old new : Plain) → FollowsPlan items old new

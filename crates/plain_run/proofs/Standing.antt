@@ -10,7 +10,7 @@ use Rattle.ata_taskfile.specs.Accesses.{all_accessed, all_answered}
 use Rattle.ata_taskfile.specs.Device.{Cell, Device}
 use Rattle.ata_taskfile.proofs.Cells.{accessed-cells}
 use Rattle.plain_drive.specs.Plain.{Plain, with_cells}
-use Rattle.plain_drive.specs.Step.{step_made, bad_step, acts}
+use Rattle.plain_drive.specs.Step.{step_made, bad_step, acts, went}
 use Rattle.plain_drive.specs.Cut.{drive_at_power_on}
 use Rattle.plain_drive.specs.Physical.{Physical, StandsFor, seen, cells_of, keeping, physical_accessed}
 use Rattle.plain_drive.proofs.Shared.{celled, accessed_shared, answer_shared}
@@ -22,7 +22,7 @@ use Rattle.schedule_text.specs.declared.Item.{Item}
 use Rattle.schedule_text.specs.declared.Item.TheVariants as item
 use Rattle.plain_run.specs.Entry.{Entry, answer_bytes, answer_items, answers_in, plan_in}
 use Rattle.plain_run.specs.Guest.{accesses_of, after_guest, answer_due, answer_of, bytes_answered, event_reads, memory_written, with_device}
-use Rattle.plain_run.specs.Event.{FollowsPlan, LeadsTo, is_cut, may_step, restarted, went, zeroed}
+use Rattle.plain_run.specs.Event.{FollowsPlan, LeadsTo, is_cut, may_step, restarted, zeroed}
 use Rattle.plain_run.specs.Run.{DriveEvent, DirectEvent, HasPlainRun, IsDriveRun, drives, physical_event, plan_due, reached_by, step_item}
 use Rattle.plain_run.proofs.Told.{answers_told, plan_told}
 

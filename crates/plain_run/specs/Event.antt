@@ -1,8 +1,8 @@
 -- One event of a plain drive.
-use Rattle.std.specs.Prelude.{ℕ, Bool, true, false, ◌≡◌, ◌≤◌, zero, suc, List, [], ◌∷◌, length, replicate}
+use Rattle.std.specs.Prelude.{ℕ, Bool, true, false, ◌≡◌, ◌≤◌, List, [], ◌∷◌, length, replicate}
 use Rattle.ata_taskfile.specs.declared.Step.TheVariants as step
 use Rattle.plain_drive.specs.Plain.{Plain}
-use Rattle.plain_drive.specs.Step.{good_step, bad_step, acts}
+use Rattle.plain_drive.specs.Step.{AllAct, acts, bad_step, went}
 use Rattle.plain_drive.specs.Cut.{IsOutcome, drive_at_power_on}
 use Rattle.schedule_text.specs.declared.Event.{Event}
 use Rattle.schedule_text.specs.declared.Event.TheVariants as event
@@ -35,16 +35,6 @@ abbrev pub LeadsTo : Event → Plain → Plain → Type 0
 LeadsTo event.Cut old new = (outcome : List (List ℕ)) × IsOutcome old.device.cells outcome
     × (new ≡ restarted outcome old)
 LeadsTo one old new = new ≡ after_guest one old
-
--- the plain drive after so many good steps
-abbrev pub went : ℕ → Plain → Plain
-went zero p = p
-went (suc n) p = good_step (went n p)
-
--- each of so many good steps has an effect
-abbrev pub AllAct : ℕ → Plain → Type 0
-AllAct zero p = Unit {0}
-AllAct (suc n) p = AllAct n p × (acts step.Good (went n p) ≡ true)
 
 -- what the report says that the plain drive did leads from old to new
 abbrev pub FollowsPlan : List Item → Plain → Plain → Type 0

@@ -2,10 +2,9 @@
 use Rattle.std.specs.Prelude.{ℕ, true, ◌≡◌, ◌≤◌, List, [], ◌∷◌}
 use Rattle.ata_taskfile.specs.declared.Step.TheVariants as step
 use Rattle.plain_drive.specs.Plain.{Plain}
-use Rattle.plain_drive.specs.Step.{bad_step, acts}
+use Rattle.plain_drive.specs.Step.{AllAct, acts, bad_step, went}
 use Rattle.schedule_text.specs.declared.Item.{Item}
 use Rattle.schedule_text.specs.declared.Item.TheVariants as item
-use Rattle.plain_run.specs.Event.{AllAct, went}
 
 -- the plain drive after the plan items among these: each makes its steps, one after the other
 abbrev pub planned : List Item → Plain → Plain
