@@ -1,14 +1,9 @@
 pub mod Blocks
 pub mod Reading
-pub mod Machines
-pub mod EventLaws
 pub mod Reporting
 pub mod Lines
-pub mod Told
-pub mod WaitingLaws
 pub mod StopLaws
 pub mod PlayedLaws
-pub mod DiskLaws
 pub mod RunLaws
 pub mod ConsoleLaws
 pub mod Reasons

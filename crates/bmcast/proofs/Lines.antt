@@ -1,7 +1,7 @@
 -- The next line of the schedule, behind those of the events that were read.
 use Rattle.std.proofs.Common.{◌≡◌, ◌≢◌, ◌≤◌, ◌+◌, ◌++◌, ℕ, List, [], ◌∷◌, length, refl, sym, ◌∙◌, append_assoc, subst, arith, inl, inr, Option}
 use Rattle.bm_host.specs.Outside.{IfTold}
-use Rattle.bmcast.proofs.Told.{IfTold-weaker}
+use Rattle.block_writes.proofs.Told.{IfTold-weaker}
 use Rattle.schedule_text.specs.declared.Event.{Event}
 use Rattle.schedule_text.specs.declared.LineFault.{LineFault}
 use Rattle.schedule_text.specs.declared.LineFault.TheVariants as fault

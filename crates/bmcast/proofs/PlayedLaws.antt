@@ -21,7 +21,7 @@ use Rattle.bmcast.specs.declared.streams.Streams.{Streams}
 use Rattle.bmcast.specs.Kept.{KeepsFiles, KeepsLooked}
 use Rattle.bmcast.specs.Streams.{unread, Said, KeepsSaid, Reports}
 use Rattle.bmcast.specs.Played.{HasPlayed, HasTaken, HasDone, HasDoneEnd, HasEnded, IsNextLine, IsPlayed, Leads, HasFailed}
-use Rattle.bmcast.proofs.Told.{IfTold-both, IfTold-weaker, IfTold-same}
+use Rattle.block_writes.proofs.Told.{IfTold-both, IfTold-weaker, IfTold-same}
 use Rattle.bmcast.proofs.Lines.{read_next, fails_next}
 
 -- what was reported stays reported, when nothing else was

@@ -6,7 +6,7 @@ use Rattle.bm_host.specs.declared.Role.TheVariants.{Schedule}
 use Rattle.schedule_text.specs.Schedule.{IsOneLine}
 use Rattle.schedule_text.proofs.Lines.{IsOneLine-push, IsOneLine-more}
 use Rattle.bmcast.specs.declared.streams.Streams.{Streams}
-use Rattle.bmcast.proofs.Told.{IfTold-weaker, IfTold-both, IfTold-same}
+use Rattle.block_writes.proofs.Told.{IfTold-weaker, IfTold-both, IfTold-same}
 use Rattle.bmcast.specs.Kept.{KeepsFiles, KeepsLooked}
 use Rattle.bmcast.specs.Streams.{unread, Takes, TakesBytes, KeepsSaid}
 

@@ -15,7 +15,7 @@ use Rattle.bmcast.specs.Chosen.{Chooses}
 use Rattle.bmcast.specs.Files.{IsOpened, IsUnopened}
 use Rattle.bmcast.specs.Lengths.{CanRun, Measured}
 use Rattle.bmcast.specs.Status.{HasCome, HasItsReason}
-use Rattle.bmcast.proofs.Told.{IfTold-same}
+use Rattle.block_writes.proofs.Told.{IfTold-same}
 
 -- words that choose a run stop for the lengths alone
 pub early_reason : (words : List (List ℕ)) (o : Outside) (choice : Choice) (why : Stop) → Says words choice

@@ -21,8 +21,8 @@ use Rattle.schedule_text.specs.declared.LineFault.{LineFault}
 use Rattle.bmcast.specs.Files.{IsLeft, IsOpened, LeavesFiles}
 use Rattle.bmcast.specs.Kept.{KeepsAllFiles, KeepsFiles, KeepsFilesBut}
 use Rattle.bmcast.specs.declared.Status.TheVariants as status
-use Rattle.bmcast.proofs.Told.{IfTold-weaker, IfTold-all, IfTold-same}
-use Rattle.bmcast.proofs.WaitingLaws.{Waits-none, Waits-all}
+use Rattle.block_writes.proofs.Told.{IfTold-weaker, IfTold-all, IfTold-same}
+use Rattle.block_writes.proofs.WaitingLaws.{Waits-none, Waits-all}
 
 -- before the first line
 played_none : (s : Streams) (o : Outside) (p : Physical) → IsOpened o → s.pending.items ≡ [] → s.at ≡ s.end

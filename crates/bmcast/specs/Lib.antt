@@ -10,7 +10,5 @@ pub mod Owed
 pub mod Stages
 pub mod Stop
 pub mod Kept
-pub mod Machine
-pub mod Waiting
 pub mod Streams
 pub mod Played

@@ -2,7 +2,7 @@
 use Rattle.std.specs.Prelude.{ℕ, ◌≡◌, ◌≢◌, ◌≤◌, ◌++◌, List, [], ◌∷◌, length, take, drop, Option, Some, None}
 use Rattle.bm_host.specs.declared.Role.TheVariants.{Schedule, Report}
 use Rattle.bm_host.specs.Outside.{Outside}
-use Rattle.bmcast.specs.Waiting.{Waits}
+use Rattle.block_writes.specs.Waiting.{Waits}
 use Rattle.schedule_text.specs.declared.TheConstants.{LINE_BYTES}
 use Rattle.schedule_text.specs.Schedule.{IsOneLine}
 use Rattle.bmcast.specs.declared.streams.Streams.{Streams}

@@ -25,9 +25,10 @@ pub record IsReply (sectors : ℕ) (image frame : List ℕ) (answer : Option (Li
   pub reads : IsReading frame reading
   pub written : answer ≡ option_map frame_of (reply sectors image reading)
 
--- no more of the image is looked at than this many sectors
-abbrev pub LooksAtMost : ℕ → Outside → Outside → Type 0
-LooksAtMost sectors old new = new.looked ≤ old.looked + SECTOR_BYTES * sectors
+-- no more of the image is looked at than this many sectors, and of none nothing
+pub record LooksAtMost (sectors : ℕ) (old new : Outside) : Type 0 where
+  pub most : new.looked ≤ old.looked + SECTOR_BYTES * sectors
+  pub none : sectors ≡ 0 → new.looked ≡ old.looked
 
 -- no more of the image is looked at than goes into the reply to a frame
 abbrev pub LooksAtSent : ℕ → List ℕ → Outside → Outside → Type 0

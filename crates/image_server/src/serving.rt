@@ -148,6 +148,7 @@ fn ata_answer<H: Host>(host: &mut H, sectors: u64, part: &AtaPart) -> Result<Ata
 
 // Reads so many sectors of the image.
 fn read_sectors<H: Host>(host: &mut H, first: u64, count: u8) -> Result<Body, Failed>
+    requires some { 1 ≤ count }
     requires few { count ≤ MOST_SECTORS }
     requires address { first < 2 ^ 48 }
     requires image { HasImage (first + count) (H.outside host.old) }

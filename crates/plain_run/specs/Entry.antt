@@ -57,26 +57,21 @@ items_due due = answer_items due.answer ++ due.plan ++ due.commands
 abbrev pub answers_in : List Item → List Item
 answers_in [] = []
 answers_in (item.Answer ∷ items) = item.Answer ∷ answers_in items
-answers_in (item.Go n ∷ items) = answers_in items
-answers_in (item.Bad ∷ items) = answers_in items
-answers_in (item.Command byte first count ∷ items) = answers_in items
+answers_in (other ∷ items) = answers_in items
 
 -- the plan items: what the report says that the plain drive did
 abbrev pub plan_in : List Item → List Item
 plan_in [] = []
-plan_in (item.Answer ∷ items) = plan_in items
 plan_in (item.Go n ∷ items) = item.Go n ∷ plan_in items
 plan_in (item.Bad ∷ items) = item.Bad ∷ plan_in items
-plan_in (item.Command byte first count ∷ items) = plan_in items
+plan_in (other ∷ items) = plan_in items
 
 -- the items that say that the drive took a command
 abbrev pub commands_in : List Item → List Item
 commands_in [] = []
-commands_in (item.Answer ∷ items) = commands_in items
-commands_in (item.Go n ∷ items) = commands_in items
-commands_in (item.Bad ∷ items) = commands_in items
 commands_in (item.Command byte first count ∷ items) =
     item.Command byte first count ∷ commands_in items
+commands_in (other ∷ items) = commands_in items
 
 -- an event with its items and its answer
 abbrev pub entry_of : Event → List Item → List ℕ → Entry

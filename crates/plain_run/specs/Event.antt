@@ -11,9 +11,11 @@ use Rattle.schedule_text.specs.declared.Item.TheVariants as item
 use Rattle.plain_run.specs.Entry.{Entry, answer_bytes, answer_items, answers_in, plan_in}
 use Rattle.plain_run.specs.Guest.{after_guest, answer_due}
 
--- the one event under which the report may say that the plain drive made steps
+-- the events under which the report may say that the plain drive made steps: one of the drive's, and a turn of the
+-- monitor, which may serve the guest
 abbrev pub may_step : Event → Bool
 may_step (event.Drive s) = true
+may_step event.Turn = true
 may_step one = false
 
 -- a power cut
@@ -39,12 +41,11 @@ LeadsTo one old new = new ≡ after_guest one old
 -- what the report says that the plain drive did leads from old to new
 abbrev pub FollowsPlan : List Item → Plain → Plain → Type 0
 FollowsPlan [] old new = new ≡ old
-FollowsPlan (item.Answer ∷ items) old new = FollowsPlan items old new
 FollowsPlan (item.Go n ∷ items) old new =
     (1 ≤ n) × AllAct n old × FollowsPlan items (went n old) new
 FollowsPlan (item.Bad ∷ items) old new =
     (acts step.Bad old ≡ true) × FollowsPlan items (bad_step old) new
-FollowsPlan (item.Command byte first count ∷ items) old new = FollowsPlan items old new
+FollowsPlan (other ∷ items) old new = FollowsPlan items old new
 
 -- one event of a plain drive, whatever else the report says of it:
 pub record PlainEvent (old : Plain) (entry : Entry) (new : Plain) : Type 0 where
@@ -54,6 +55,6 @@ pub record PlainEvent (old : Plain) (entry : Entry) (new : Plain) : Type 0 where
   -- the event leads the drive to where its plan begins
   pub between : Plain
   pub reached : LeadsTo entry.event old between
-  -- and the drive follows the plan, which stands under a step of the drive alone
+  -- and the drive follows the plan, which stands under a step of the drive or a turn alone
   pub placed : may_step entry.event ≡ false → plan_in entry.items ≡ []
   pub followed : FollowsPlan entry.items between new

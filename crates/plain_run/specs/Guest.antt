@@ -22,14 +22,8 @@ accesses_of (event.ReadWords n) = replicate n access.ReadWord
 accesses_of (event.WriteWords bytes) = map (λ w. access.WriteWord w) (words_of bytes)
 accesses_of event.ReadPointer = access.ReadPointer ∷ []
 accesses_of (event.WritePointer v) = access.WritePointer v ∷ []
-accesses_of (event.ReadMemory address n) = []
-accesses_of (event.WriteMemory address bytes) = []
 accesses_of event.Line = access.Line ∷ []
-accesses_of (event.Drive s) = []
-accesses_of (event.Destage k) = []
-accesses_of event.Cut = []
-accesses_of event.Remark = []
-accesses_of event.End = []
+accesses_of other = []
 
 -- the bytes that an access answers: a word has its low byte first, and the table pointer its most
 -- significant one, as the schedule writes it (own)

@@ -9,18 +9,16 @@ use Rattle.schedule_text.specs.declared.Item.TheVariants as item
 -- the plain drive after the plan items among these: each makes its steps, one after the other
 abbrev pub planned : List Item → Plain → Plain
 planned [] p = p
-planned (item.Answer ∷ items) p = planned items p
 planned (item.Go n ∷ items) p = planned items (went n p)
 planned (item.Bad ∷ items) p = planned items (bad_step p)
-planned (item.Command byte first count ∷ items) p = planned items p
+planned (other ∷ items) p = planned items p
 
 -- each of their steps has an effect, and `p go` says one step at least
 abbrev pub ActsAlong : List Item → Plain → Type 0
 ActsAlong [] p = Unit {0}
-ActsAlong (item.Answer ∷ items) p = ActsAlong items p
 ActsAlong (item.Go n ∷ items) p = (1 ≤ n) × AllAct n p × ActsAlong items (went n p)
 ActsAlong (item.Bad ∷ items) p = (acts step.Bad p ≡ true) × ActsAlong items (bad_step p)
-ActsAlong (item.Command byte first count ∷ items) p = ActsAlong items p
+ActsAlong (other ∷ items) p = ActsAlong items p
 
 -- the plan leads from old to new: its steps act, and new is where they end
 pub record IsPlanned (items : List Item) (old new : Plain) : Type 0 where

@@ -30,10 +30,8 @@ is_within first count s = not (nat_lt s first) && nat_lt s (first + count)
 
 -- a command line of a write whose range has the sector
 abbrev pub names_write : ℕ → Item → Bool
-names_write s item.Answer = false
-names_write s (item.Go n) = false
-names_write s item.Bad = false
 names_write s (item.Command byte first count) = writes_sectors byte && is_within first count s
+names_write s other = false
 
 -- one of these items is such a line
 abbrev pub items_name : ℕ → List Item → Bool

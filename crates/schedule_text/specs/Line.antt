@@ -1,11 +1,14 @@
 -- The grammar of one line of a schedule: by the text of each event.
-use Rattle.std.specs.Prelude.{ℕ, ◌≡◌, ◌<◌, ◌≤◌, ◌+◌, ◌-◌, ◌&&◌, nat_le, ◌/◌, ◌%◌, ◌^◌, ◌++◌, ◌⊎◌, List, [], ◌∷◌, length, codes, decimal, nat_lt, if◌then◌else◌, Result, Ok, Err, MatchResult}
+use Rattle.std.specs.Prelude.{ℕ, Bool, true, false, ◌≡◌, ◌<◌, ◌≤◌, ◌+◌, ◌-◌, ◌&&◌, nat_le, ◌/◌, ◌%◌, ◌^◌, ◌++◌, ◌⊎◌, List, [], ◌∷◌, length, codes, decimal, nat_lt, if◌then◌else◌, Result, Ok, Err, MatchResult}
 use Rattle.std.specs.List.{AllByRecursion, flat_map}
 use Rattle.std.specs.Int.{w32, to_be_bytes}
 use Rattle.std.specs.Str.Parse.{digits_value}
 use Rattle.ata_taskfile.specs.declared.Reg.{Reg}
 use Rattle.ata_taskfile.specs.declared.Reg.TheVariants as reg
 use Rattle.ata_taskfile.specs.declared.Step.TheVariants as step
+use Rattle.aoe_frame.specs.declared.frame.TheConstants.{MOST_BYTES}
+use Rattle.aoe_net.specs.declared.way.Way.{Way}
+use Rattle.aoe_net.specs.declared.way.Way.TheVariants.{ToServer, ToClient}
 use Rattle.decimal_text.specs.Decimal.{IsDecimal}
 use Rattle.schedule_text.specs.declared.Event.{Event}
 use Rattle.schedule_text.specs.declared.Event.TheVariants as event
@@ -25,6 +28,21 @@ register_text reg.Status = codes "st"
 register_text reg.Alternate = codes "al"
 register_text reg.BusCommand = codes "bc"
 register_text reg.BusStatus = codes "bs"
+
+-- the letter of a way in a schedule, by who is at its end: the server or the client (own)
+abbrev pub way_text : Way → List ℕ
+way_text ToServer = codes "s"
+way_text ToClient = codes "c"
+
+-- the letter of a stray frame, by the way at whose end it comes (own)
+abbrev pub stray_text : Way → List ℕ
+stray_text ToClient = codes "x"
+stray_text ToServer = codes "y"
+
+-- what stands behind the place of a frame that stays in its list, and of one that leaves it (own)
+abbrev pub keep_text : Bool → List ℕ
+keep_text true = codes " keep"
+keep_text false = []
 
 -- a hexadecimal digit in lower case
 abbrev pub hex_digit : ℕ → ℕ
@@ -67,8 +85,13 @@ IsInRange (event.WritePointer v) = v < 2 ^ 32
 IsInRange (event.ReadMemory a n) = (a < 2 ^ 32) × (1 ≤ n) × (n ≤ EVENT_BYTES)
 IsInRange (event.WriteMemory a bytes) = (a < 2 ^ 32) × AreSomeBytes ANSWER_BYTES bytes
 IsInRange event.Line = Unit {0}
+IsInRange (event.Deliver way k keep) = k ≤ LAST_PLACE
+IsInRange (event.Lose way k) = k ≤ LAST_PLACE
+IsInRange (event.Stray way frame) = AreSomeBytes MOST_BYTES frame
 IsInRange (event.Drive s) = Unit {0}
 IsInRange (event.Destage k) = k ≤ LAST_PLACE
+IsInRange event.Turn = Unit {0}
+IsInRange event.Tick = Unit {0}
 IsInRange event.Cut = Unit {0}
 IsInRange event.Remark = Unit {0}
 IsInRange event.End = Unit {0}
@@ -90,9 +113,14 @@ IsTextOf (event.ReadMemory a n) line = line ≡ codes "g mr " ++ hex_long a ++ 3
 IsTextOf (event.WriteMemory a bytes) line =
     line ≡ codes "g mw " ++ hex_long a ++ 32 ∷ hex_text bytes
 IsTextOf event.Line line = line ≡ codes "g line"
+IsTextOf (event.Deliver way k keep) line = ⊥
+IsTextOf (event.Lose way k) line = ⊥
+IsTextOf (event.Stray way frame) line = ⊥
 IsTextOf (event.Drive step.Good) line = line ≡ codes "d ok"
 IsTextOf (event.Drive step.Bad) line = line ≡ codes "d bad"
 IsTextOf (event.Destage k) line = line ≡ codes "d put " ++ decimal k
+IsTextOf event.Turn line = ⊥
+IsTextOf event.Tick line = ⊥
 IsTextOf event.Cut line = line ≡ codes "cut"
 IsTextOf event.Remark line = IsRemark line × (length line ≤ LINE_BYTES)
 IsTextOf event.End line = line ≡ codes "end"

@@ -11,6 +11,11 @@ item_text (item.Go n) bytes = codes "p go " ++ decimal n
 item_text item.Bad bytes = codes "p bad"
 item_text (item.Command byte first count) bytes =
     codes "c " ++ hex_byte byte ++ 32 ∷ decimal first ++ 32 ∷ decimal count
+item_text (item.Asked tag) bytes = codes "a " ++ decimal tag
+item_text item.Ready bytes = codes "m ready"
+item_text item.Left bytes = codes "m gone"
+item_text item.Reserved bytes = codes "m reserved"
+item_text item.Forged bytes = codes "m forged"
 
 -- a report's line: the number of the event's line, a space, the item and a line feed (own)
 abbrev pub line_text : ℕ → Item → List ℕ → List ℕ

@@ -14,7 +14,8 @@ mod read;
 mod schedule;
 mod write;
 
-use aoe_frame::Bytes;
+use aoe_frame::{Bytes, Frame};
+use aoe_net::Way;
 use ata_taskfile::{Reg, Step};
 pub use emitted::Emitted;
 pub use read::{line_says_one_event, read_event, read_line};
@@ -39,7 +40,7 @@ pub const EVENT_BYTES: u32 = 2000;
 /// `EVENT_BYTES` as a size.
 pub const ANSWER_BYTES: usize = 2000;
 
-/// The last place in the drive's cache that a line can name.
+/// The last place in the drive's cache, or in a list of frames, that a line can name.
 pub const LAST_PLACE: u32 = 63;
 
 /// What one line of a schedule says.
@@ -63,10 +64,21 @@ pub enum Event {
     WriteMemory(u32, Bytes<ANSWER_BYTES>),
     /// The guest looks at the interrupt line.
     Line,
+    /// The frame at a place of one way, 0 to `LAST_PLACE`, the oldest first, is delivered; where the flag is set, it stays
+    /// in its list, and else it leaves it.
+    Deliver(Way, u32, bool),
+    /// The frame at a place of one way is lost: 0 to `LAST_PLACE`, the oldest first.
+    Lose(Way, u32),
+    /// A stray frame, of 1 byte at least, is delivered at the end of one way, where no one sent it.
+    Stray(Way, Frame),
     /// The drive makes a step.
     Drive(Step),
     /// The entry of the drive's cache at a place becomes durable: 0 to `LAST_PLACE`, the oldest first.
     Destage(u32),
+    /// The monitor has a turn.
+    Turn,
+    /// The clock ticks.
+    Tick,
     /// The power is cut, and comes again.
     Cut,
     /// An empty line or a note: no event.
@@ -104,6 +116,16 @@ pub enum Item {
     Bad,
     /// The drive took a command: its byte, its first sector and its count, both 0 without a range or refused.
     Command(u8, u64, u32),
+    /// The monitor sent a request: its tag.
+    Asked(u32),
+    /// The monitor has opened its disk, and serves the guest from now on.
+    Ready,
+    /// The monitor has left, and the drive is the guest's alone.
+    Left,
+    /// The guest's command names a sector that the monitor reserves.
+    Reserved,
+    /// A frame that the server didn't send was accepted as its reply.
+    Forged,
 }
 
 #[cfg(test)]

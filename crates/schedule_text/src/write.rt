@@ -63,6 +63,14 @@ fn push_item(item: &Item, bytes: &[u8], into: &mut ArrayVec<u8, REPORT_LINE>)
             into.push(b' ');
             push_decimal(count.into(), into);
         }
+        Item::Asked(tag) => {
+            push_text(b"a ", into);
+            push_decimal(tag.into(), into);
+        }
+        Item::Ready => push_text(b"m ready", into),
+        Item::Left => push_text(b"m gone", into),
+        Item::Reserved => push_text(b"m reserved", into),
+        Item::Forged => push_text(b"m forged", into),
     }
 }
 

@@ -11,10 +11,9 @@ use Rattle.plain_run.proofs.a_remark_changes_nothing.Goals as goal
 -- without a plan item the plain drive stays
 stays : (items : List Item) (old new : Plain) → plan_in items ≡ [] → FollowsPlan items old new → new ≡ old
 stays [] old new none followed = followed
-stays (item.Answer ∷ items) old new none followed = stays items old new none followed
 stays (item.Go n ∷ items) old new none followed = cc
 stays (item.Bad ∷ items) old new none followed = cc
-stays (item.Command byte first count ∷ items) old new none followed = stays items old new none followed
+stays (other ∷ items) old new none followed = stays items old new none followed
 
 -- nor does a remark itself move it
 remark_stays : (one : Event) (old new : Plain) → one ≡ event.Remark → LeadsTo one old new → new ≡ old

@@ -1,7 +1,7 @@
 use Rattle.bm_host.proofs.OutsideLaws.{same_counts_trans}
 use Rattle.bmcast.proofs.StopLaws.{stopped_after}
 use Rattle.bm_host.specs.declared.Role.TheVariants.{Disk}
-use Rattle.bmcast.proofs.Told.{IfTold-same}
+use Rattle.block_writes.proofs.Told.{IfTold-same}
 use Rattle.bmcast.proofs.lengths.measure.Goals as goal
 
 pub returns-in-Err-clause-counts : goal.returns-in-Err-clause-counts

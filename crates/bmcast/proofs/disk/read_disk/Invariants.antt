@@ -1,8 +1,0 @@
-use Rattle.std.proofs.Common.{length}
-use Rattle.bmcast.specs.Machine.{list_of}
-use Rattle.bmcast.proofs.DiskLaws.{ReadsFront}
-use Rattle.bmcast.proofs.disk.read_disk.Given as goal
-
-abbrev pub invariant-loop-sector : goal.invariant-loop-sector
-invariant-loop-sector g l = ReadsFront (g.H.Host.outside l.initial.host) (g.H.Host.outside l.host)
-    (length (list_of l.initial.store)) (list_of l.store) l.sector

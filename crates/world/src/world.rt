@@ -1,0 +1,145 @@
+//! The world of a run: its calls.
+
+ghost use Rattle.std.specs.Prelude.{◌≡◌, ◌≤◌, ◌*◌, ◌++◌, List, ℕ, [], All, length, IfErr, IfOk, OnErr, OnOk};
+ghost use Rattle.std.specs.List.{concat};
+ghost use Rattle.ata_taskfile.specs.declared.registers.TheConstants.{SECTOR_BYTES};
+ghost use Rattle.bm_dma.specs.declared.TheConstants.{MOST_BYTES};
+ghost use Rattle.bm_host.specs.declared.Role.TheVariants.{Disk, Image, Out};
+ghost use Rattle.bm_host.specs.Outside.{Becomes, IfTold, SameBytes};
+ghost use Rattle.block_writes.specs.Kept.{KeepsFilesBut, KeepsLooked};
+ghost use Rattle.image_server.specs.Serving.{HasImage};
+ghost use Rattle.plain_drive.specs.Plain.{sectors_in};
+ghost use Rattle.schedule_text.specs.Line.{IsInRange};
+ghost use Rattle.plain_run.specs.Entry.{entry_of};
+ghost use Rattle.streaming.specs.World.{HandsSectors, WorldEvent, started};
+ghost use Rattle.monitor_state.specs.Setup.{IsSetup};
+ghost use Rattle.world.specs.Faults.{FailsAtStart, FailsByHost};
+ghost use Rattle.world.specs.declared.fault.HostFault.TheVariants.{Read, Write};
+
+use crate::disk::{load, write_out};
+use crate::events::apply;
+use crate::fault::{HostFault, StartFault};
+use crate::machine::Machine;
+use crate::network::convey;
+use aoe_net::Net;
+use bm_host::Host;
+use monitor_state::Setup;
+use schedule_text::{Emitted, Event};
+use std::alloc::Global;
+use std::marker::Model;
+
+/// The drive, the guest's memory, the network and the image server of one run.
+///
+/// A contract sees the physical drive, the frames that are under way, and how many sectors the image has (`Scene` of
+/// the crate `streaming`). A world can be neither copied nor let go: `close` or `discard` ends it.
+pub struct World {
+    machine: Machine,
+    net: Net,
+    image: u64,
+}
+
+impl Model for World {
+    ghost use Rattle.streaming.specs.World.{Scene};
+    ghost use Rattle.world.specs.Machine.{physical};
+
+    ghost Value = { Scene };
+
+    ghost view = { λ w. record { drive = physical w.machine; wire = w.net; image = w.image } };
+}
+
+impl World {
+    /// Begins a run over the disk's sectors, with a guest's memory of so many zeros and nothing under way.
+    ///
+    /// It takes all the memory that the run needs, and looks at no byte of Image. It fails where memory is wanting, or
+    /// where Disk can't be read.
+    pub fn start<H: Host>(
+        alloc: Global,
+        host: &mut H,
+        setup: &Setup,
+        memory: u32,
+    ) -> Result<World, StartFault>
+        requires setup { IsSetup setup.now }
+        // A run with an image is built later.
+        requires empty { setup.now.area.image ≡ 0 }
+        requires memory { memory ≤ MOST_BYTES }
+        requires disk { IfTold ((H.outside host.old).told Disk)
+            (λ bytes. SECTOR_BYTES * setup.now.area.sectors ≤ length bytes) }
+        requires image { HasImage setup.now.area.image (H.outside host.old) }
+        ensures began { IfOk result (λ world.
+            world ≡ started memory setup.now.area.image world.drive.kept.durable) }
+        ensures count { IfOk result (λ world.
+            length world.drive.kept.durable ≡ setup.now.area.sectors) }
+        ensures sectors { IfOk result (λ world.
+            All (λ sector. length sector ≡ SECTOR_BYTES) world.drive.kept.durable) }
+        ensures disk { IfOk result (λ world. IfTold ((H.outside host.old).told Disk)
+            (λ bytes. world.drive.kept.durable ≡ sectors_in setup.now.area.sectors bytes)) }
+        ensures fault { FailsAtStart result (H.outside host.old) (H.outside host.new) }
+        ensures bytes { SameBytes (H.outside host.old) (H.outside host.new) }
+        ensures looked { KeepsLooked (H.outside host.old) (H.outside host.new) }
+    {
+        let machine = load(alloc, host, setup.area.sectors, memory)?;
+        let Ok(net) = Net::new(alloc) else {
+            return Err(StartFault::NoMemory);
+        };
+        Ok(World {
+            machine,
+            net,
+            image: setup.area.image,
+        })
+    }
+
+    /// Lets the world act as one event says, and tells in `out` what the report says of it.
+    ///
+    /// It fails only where Image can't be read for a reply; the world is then to be discarded.
+    pub fn apply<H: Host>(
+        &mut self,
+        host: &mut H,
+        event: &Event,
+        out: &mut Emitted,
+    ) -> Result<(), HostFault>
+        requires in_range { IsInRange event.now }
+        requires items { out.old.items.items ≡ [] }
+        requires bytes { out.old.bytes.items ≡ [] }
+        requires image { HasImage self.old.image (H.outside host.old) }
+        ensures event { OnOk result (WorldEvent (H.outside host.old) (H.outside host.new) self.old
+            (entry_of event.now out.new.items.items out.new.bytes.items) self.new) }
+
+        // It fails only where sectors of the image go into the reply to a frame that the server is handed.
+        ensures needed { OnErr result (HandsSectors event.now self.old) }
+        ensures role { IfErr result (λ fault. fault ≡ Read Image) }
+        ensures fault { FailsByHost result (H.outside host.old) (H.outside host.new) }
+        ensures files { SameBytes (H.outside host.old) (H.outside host.new) }
+    {
+        convey(host, &mut self.net, self.image, event)?;
+        apply(&mut self.machine, event, out);
+        Ok(())
+    }
+
+    /// Ends the world, and appends to Out what a power cut at this moment leaves of the drive: the durable value of
+    /// each sector, in order. It fails only where Out can't be written.
+    pub fn close<H: Host>(self, host: &mut H) -> Result<(), HostFault>
+        ensures out { OnOk result (Becomes (λ before after.
+            after ≡ before ++ concat self.drive.kept.durable)
+            ((H.outside host.old).told Out) ((H.outside host.new).told Out)) }
+        ensures role { IfErr result (λ fault. fault ≡ Write Out) }
+        ensures fault { FailsByHost result (H.outside host.old) (H.outside host.new) }
+        ensures files { KeepsFilesBut Out (H.outside host.old) (H.outside host.new) }
+        ensures looked { KeepsLooked (H.outside host.old) (H.outside host.new) }
+    {
+        let World {
+            mut machine,
+            net: _,
+            image: _,
+        } = self;
+        write_out(host, &mut machine)
+    }
+
+    /// Ends the world, and tells nothing of it.
+    pub fn discard(self) {
+        let World {
+            machine: _,
+            net: _,
+            image: _,
+        } = self;
+    }
+}
