@@ -1,0 +1,4 @@
+pub mod Moderation
+pub mod Window
+pub mod Happened
+pub mod Copier
