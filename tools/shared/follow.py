@@ -10,6 +10,7 @@ from typing import Iterator, NamedTuple
 from shared.lines import Event, Items, Report, event_of, items_of
 from shared.names import (ACTIVE, COMMANDS, DEV, ERROR, FEATURES, INTERRUPT, LBA, NIEN, SRST, START, WITHOUT_RANGE,
                           begin_shown, command_name, many)
+from shared.network import Network, frame_shown
 
 SECTOR, ENTRIES = 512, 64
 LAST_DESCRIPTOR = 0x8000
@@ -72,6 +73,7 @@ class Drive:
     def __init__(self, memory: int):
         self.size = memory
         self.durable: dict[int, bytes] = {}
+        self.network = Network()
         self.power_on()
 
     def power_on(self) -> None:
@@ -110,6 +112,8 @@ class Drive:
         note = getattr(self, f"meet_{event.kind}", lambda *_: "")(event, items)
         if self.line and not was_high:
             self.bus_status |= INTERRUPT
+        for tag in items.asked:
+            self.network.ask(tag)
         return note
 
     def meet_r8(self, event: Event, items: Items) -> str:
@@ -235,6 +239,26 @@ class Drive:
     def meet_end(self, event: Event, items: Items) -> str:
         held = entries_shown(self.cache)
         return f"; in the cache, and so not in Out: {held}" if held else ""
+
+    # Frames, which a power cut leaves under way.
+
+    def meet_serve(self, event: Event, items: Items) -> str:
+        return self.network.to_server(event.number, bool(event.count))
+
+    def meet_hear(self, event: Event, items: Items) -> str:
+        return self.network.to_client(event.number, bool(event.count))
+
+    def meet_lose_request(self, event: Event, items: Items) -> str:
+        return self.network.lose_request(event.number)
+
+    def meet_lose_reply(self, event: Event, items: Items) -> str:
+        return self.network.lose_reply(event.number)
+
+    def meet_stray_request(self, event: Event, items: Items) -> str:
+        return self.network.served(event.data)
+
+    def meet_stray_reply(self, event: Event, items: Items) -> str:
+        return f"the client gets {frame_shown(event.data)}"
 
     # Steps.
 

@@ -9,7 +9,7 @@ from shared.names import REGISTERS
 
 class Event(NamedTuple):
     """What a line of a schedule says: its kind, which is the word that tells it (`r8`, `ok`, `cut` ..), a register, a
-    number (a byte, a count, an address), and bytes. A line that isn't read has the kind `?`."""
+    number (a byte, an address, a place), bytes, and a count. A line that isn't read has the kind `?`."""
 
     kind: str
     register: str = ""
@@ -30,6 +30,14 @@ SHAPES = {
     f"g mr {ADDRESS} {NUMBER}": lambda address, n: Event("mr", number=int(address, 16), count=int(n)),
     f"g mw {ADDRESS} {BYTES}": lambda address, data: Event("mw", number=int(address, 16), data=bytes.fromhex(data)),
     "g line": lambda: Event("line"),
+    f"n s {NUMBER}( keep)?": lambda k, keep: Event("serve", number=int(k), count=int(keep is not None)),
+    f"n c {NUMBER}( keep)?": lambda k, keep: Event("hear", number=int(k), count=int(keep is not None)),
+    f"n ls {NUMBER}": lambda k: Event("lose_request", number=int(k)),
+    f"n lc {NUMBER}": lambda k: Event("lose_reply", number=int(k)),
+    f"n y {BYTES}": lambda data: Event("stray_request", data=bytes.fromhex(data)),
+    f"n x {BYTES}": lambda data: Event("stray_reply", data=bytes.fromhex(data)),
+    "t": lambda: Event("turn"),
+    "k": lambda: Event("tick"),
     "d ok": lambda: Event("ok"),
     "d bad": lambda: Event("bad"),
     f"d put {NUMBER}": lambda k: Event("put", number=int(k)),
@@ -53,16 +61,17 @@ def event_of(line: str) -> Event:
 
 class Items(NamedTuple):
     """What a report tells of one event: the answer's bytes, the taken command with its range, the steps that went well,
-    whether a step failed; and the lines that aren't read."""
+    whether a step failed, and the tags that were asked."""
 
     answer: bytes | None = None
     taken: tuple[int, int, int] | None = None
     steps: int = 0
     failed: bool = False
+    asked: tuple[int, ...] = ()
 
 
 def items_of(lines: list[str]) -> Items:
-    answer, taken, steps, failed = None, None, 0, False
+    answer, taken, steps, failed, asked = None, None, 0, False, []
     for line in lines:
         if found := re.fullmatch(f"o {BYTES}", line):
             answer = bytes.fromhex(found[1])
@@ -72,7 +81,9 @@ def items_of(lines: list[str]) -> Items:
             steps += int(found[1])
         elif line == "p bad":
             failed = True
-    return Items(answer, taken, steps, failed)
+        elif found := re.fullmatch(f"a {NUMBER}", line):
+            asked.append(int(found[1]))
+    return Items(answer, taken, steps, failed, tuple(asked))
 
 
 class Report(NamedTuple):
