@@ -5,7 +5,6 @@ use Rattle.aoe_frame.specs.declared.message.Aoe.{Aoe}
 use Rattle.aoe_frame.specs.declared.message.FrameFault.{FrameFault}
 use Rattle.aoe_frame.specs.Layout.{frame_of}
 use Rattle.aoe_frame.specs.Reading.{IsReading}
-use Rattle.aoe_net.specs.declared.way.Way.{Way}
 use Rattle.aoe_net.specs.declared.way.Way.TheVariants.{ToServer, ToClient}
 use Rattle.aoe_net.specs.Wire.{Wire, nothing_sent, sent, without}
 use Rattle.image_server.specs.Reply.{reply, sectors_sent}
