@@ -6,15 +6,6 @@
 
 use fill_bitmap::Area;
 
-/// The most ticks between two copies (own).
-pub const MOST_GAP: u32 = 65_535;
-
-/// The most ticks over which the guest's commands are counted (own).
-pub const MOST_WINDOW: u32 = 1024;
-
-/// The most commands of the guest that may be allowed in these ticks (own).
-pub const MOST_LIMIT: u32 = 65_535;
-
 /// The fewest leases of the monitor's pool (own).
 pub const LEAST_POOL: u32 = 4;
 
@@ -28,11 +19,11 @@ pub struct Setup {
     pub area: Area,
     /// The number of the run, which its header has.
     pub id: u64,
-    /// The ticks that go by between two copies: at most `MOST_GAP`.
+    /// The ticks that go by between two copies: at most `bg_copy::MOST_GAP`.
     pub gap: u32,
-    /// The ticks over which the guest's commands are counted: 1 to `MOST_WINDOW`.
+    /// The ticks over which the guest's commands are counted: 1 to `bg_copy::MOST_WINDOW`.
     pub window: u32,
-    /// The commands of the guest in these ticks up to which a copy is made: at most `MOST_LIMIT`.
+    /// The commands of the guest in these ticks up to which a copy is made: at most `bg_copy::MOST_LIMIT`.
     pub limit: u32,
     /// The leases of the monitor's pool: `LEAST_POOL` to `MOST_POOL`.
     pub pool: u32,
