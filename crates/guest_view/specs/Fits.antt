@@ -1,7 +1,7 @@
 -- What the view is whenever the monitor has the drive.
 use Rattle.std.specs.Prelude.{◌≡◌, ℕ, true, false, ◌≤◌}
 use Rattle.ata_taskfile.specs.Data.{is_wanted}
-use Rattle.ata_taskfile.specs.Lawful.{end_of, is_just_taken}
+use Rattle.ata_taskfile.specs.Lawful.{end_of, is_just_taken, HasTwoBytes}
 use Rattle.port_lease.specs.declared.view.View.{View}
 use Rattle.port_lease.specs.View.{IsLawfulView}
 use Rattle.port_lease.specs.Handover.{IsOrdered}
@@ -13,3 +13,4 @@ pub record FitsView (v : View) (sectors : ℕ) : Type 0 where
   pub within : end_of v.file.phase ≤ sectors
   pub ordered : is_just_taken v.file.phase ≡ true → IsOrdered v v.file.command sectors
   pub served : is_wanted v.file.phase ≡ false
+  pub pairs : HasTwoBytes v.file

@@ -17,18 +17,18 @@ use Rattle.port_lease.specs.declared.view.View.{View}
 use Rattle.port_lease.specs.View.{is_command}
 
 -- the view with other registers
-abbrev pub with_file : TaskFile → View → View
-with_file f v = record v { file = f }
+abbrev pub view_with_file : TaskFile → View → View
+view_with_file f v = record v { file = f }
 
 -- the view with its command in another phase
-abbrev pub with_phase : Phase → View → View
-with_phase phase v = record v { file = record v.file { phase = phase } }
+abbrev pub view_with_phase : Phase → View → View
+view_with_phase phase v = record v { file = record v.file { phase = phase } }
 
 -- the view after a write that did this and left these registers, on a drive of so many sectors
 abbrev pub view_wrote : Wrote → TaskFile → ℕ → View → View
-view_wrote Stored f sectors v = with_file f v
+view_wrote Stored f sectors v = view_with_file f v
 view_wrote Ignored f sectors v = v
-view_wrote (Command byte) f sectors v = with_file (in_hand byte sectors f) v
+view_wrote (Command byte) f sectors v = view_with_file (in_hand byte sectors f) v
 view_wrote ResetBegun f sectors v =
     record { file = f; bus = bus_in_reset v.file.phase v.bus }
 
@@ -42,10 +42,10 @@ view_after_write r x sectors v =
 -- the view after an access, on a drive of so many sectors: what a plain drive with its registers would have;
 -- its own interrupt bit is looked at by no rule (own)
 abbrev pub view_after : Access → ℕ → View → View
-view_after (access.Read8 r) sectors v = with_file (after_read r v.file) v
+view_after (access.Read8 r) sectors v = view_with_file (after_read r v.file) v
 view_after (access.Write8 r x) sectors v = view_after_write r x sectors v
-view_after access.ReadWord sectors v = with_phase (phase_after_read v.file.phase) v
-view_after (access.WriteWord w) sectors v = with_phase (phase_after_write v.file.phase) v
+view_after access.ReadWord sectors v = view_with_phase (phase_after_read v.file.phase) v
+view_after (access.WriteWord w) sectors v = view_with_phase (phase_after_write v.file.phase) v
 view_after access.ReadPointer sectors v = v
 view_after (access.WritePointer x) sectors v = record v { bus = pointer_written x v.bus }
 view_after access.Line sectors v = v
