@@ -1,5 +1,5 @@
 -- A plan as a relation, and as a function of where it begins.
-use Rattle.std.proofs.Common.{◌≡◌, ℕ, List, [], ◌∷◌}
+use Rattle.std.proofs.Common.{List, [], ◌∷◌}
 use Rattle.plain_drive.specs.Plain.{Plain}
 use Rattle.plain_drive.specs.Step.{bad_step, went}
 use Rattle.schedule_text.specs.declared.Item.{Item}

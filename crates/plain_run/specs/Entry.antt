@@ -1,6 +1,6 @@
 -- An event with what the report says of it, and the text of reports. Lists of entries have the
 -- newest first.
-use Rattle.std.specs.Prelude.{ℕ, ◌+◌, ◌++◌, List, [], ◌∷◌, length, Option, Some, None}
+use Rattle.std.specs.Prelude.{ℕ, ◌+◌, ◌++◌, Bool, true, false, List, [], ◌∷◌, length, Option, Some, None}
 use Rattle.schedule_text.specs.declared.Event.{Event}
 use Rattle.schedule_text.specs.declared.Item.{Item}
 use Rattle.schedule_text.specs.declared.Item.TheVariants as item
@@ -72,6 +72,18 @@ commands_in [] = []
 commands_in (item.Command byte first count ∷ items) =
     item.Command byte first count ∷ commands_in items
 commands_in (other ∷ items) = commands_in items
+
+-- an item that a monitor alone gives: a request that it sent, or a mark
+abbrev pub is_monitors : Item → Bool
+is_monitors item.Answer = false
+is_monitors (item.Go n) = false
+is_monitors item.Bad = false
+is_monitors (item.Command byte first count) = false
+is_monitors (item.Asked tag) = true
+is_monitors item.Ready = true
+is_monitors item.Left = true
+is_monitors item.Reserved = true
+is_monitors item.Forged = true
 
 -- an event with its items and its answer
 abbrev pub entry_of : Event → List Item → List ℕ → Entry

@@ -1,5 +1,5 @@
 -- What a plan makes of a plain drive, as a function of what the report says.
-use Rattle.std.specs.Prelude.{ℕ, true, ◌≡◌, ◌≤◌, List, [], ◌∷◌}
+use Rattle.std.specs.Prelude.{true, ◌≡◌, ◌≤◌, List, [], ◌∷◌}
 use Rattle.ata_taskfile.specs.declared.Step.TheVariants as step
 use Rattle.plain_drive.specs.Plain.{Plain}
 use Rattle.plain_drive.specs.Step.{AllAct, acts, bad_step, went}

@@ -16,7 +16,7 @@ ghost use Rattle.plain_drive.specs.Plain.{Plain};
 ghost use Rattle.plain_drive.specs.Physical.{Physical, StandsFor, fresh, physical_at_power_on, seen};
 ghost use Rattle.schedule_text.specs.declared.Event.TheVariants.{Remark};
 ghost use Rattle.schedule_text.specs.declared.Item.{Item};
-ghost use Rattle.plain_run.specs.Entry.{Entry, answer_items, answers_in, commands_in, plan_in};
+ghost use Rattle.plain_run.specs.Entry.{Entry, answer_items, answers_in, commands_in, is_monitors, plan_in};
 ghost use Rattle.plain_run.specs.Guest.{answer_due};
 ghost use Rattle.plain_run.specs.Event.{FollowsPlan, PlainEvent};
 ghost use Rattle.plain_run.specs.Plan.{IsPlanned};
@@ -39,6 +39,12 @@ pub fn what_is_due_is_told_once()
         → plan_in entry.items ≡ plan_due entry.event (seen old) }
     ensures commands { (old new : Physical) (entry : Entry) → DriveEvent old entry new
         → commands_in entry.items ≡ commands_due old.file new.file }
+{}
+
+/// A drive without a monitor has neither a request nor a mark among its items.
+pub fn a_drive_alone_tells_of_no_monitor()
+    ensures { (old new : Physical) (entry : Entry) → DriveEvent old entry new
+        → All (λ one. is_monitors one ≡ false) entry.items }
 {}
 
 /// A plan leads a plain drive to one place, where its steps end, and each of these has an effect.

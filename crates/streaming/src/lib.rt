@@ -10,4 +10,4 @@
 
 mod laws;
 
-pub use laws::an_empty_image_is_never_looked_at;
+pub use laws::{a_drive_alone_sends_no_request, an_empty_image_is_never_looked_at};
