@@ -8,8 +8,8 @@
 //! a write cache; its whole runs are those of `plain_run`. `specs/Seen.antt` has the steps, destages and power cuts of
 //! such a drive as they are seen without its cache, and the laws in `caching` show that a physical drive makes exactly
 //! these. `specs/Alike.antt` says when a guest can't tell two drives apart, and the laws in `alike` show that no access
-//! and no step tells. The functions below are laws that show what the other definitions mean, in that order;
-//! `docs/drive.md` has the same as tables.
+//! and no step tells. `failing` has the registers of a command that fails, which more than a drive shows. The functions
+//! below are laws that show what the other definitions mean, in that order; `docs/drive.md` has the same as tables.
 //!
 //! It has no tests of its own: those of `drive_model` try its rules over a drive.
 
@@ -18,6 +18,7 @@
 mod alike;
 mod bytes;
 mod caching;
+mod failing;
 
 ghost use Rattle.std.specs.Prelude.{◌≡◌, ◌≢◌, ◌↔◌, ◌<◌, ℕ, List, [], map, replicate, length, slice_index_or, false};
 ghost use Rattle.ata_taskfile.specs.declared.Access.{Access};
@@ -42,6 +43,7 @@ pub use alike::{
 };
 pub use bytes::{a_sector_is_its_bytes, sectors_are_held_whole, words_and_bytes_undo_each_other};
 pub use caching::{a_physical_drive_is_seen, ends_forget_older_values, ends_of_cells_are_kept};
+pub use failing::{failure_bit, show_failure};
 
 /// A value that is written is the current one of its sector, and the other sectors keep all of theirs.
 pub fn a_written_value_is_current()
