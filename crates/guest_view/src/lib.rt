@@ -21,4 +21,4 @@ pub use laws::{
     failures_are_the_guests, offered_blocks_are_the_guests, refusals_are_the_guests,
     views_stay_lawful,
 };
-pub use steps::{end_reset, finish, offer, refuse};
+pub use steps::{end_reset, fail, finish, offer, refuse};

@@ -2,8 +2,9 @@
 //!
 //! Each is what the drive that the guest sees does in a step, once the drive's line is the view's.
 
-ghost use Rattle.std.specs.Prelude.{◌≡◌, ◌<◌, ℕ, true, false};
+ghost use Rattle.std.specs.Prelude.{◌≡◌, ◌+◌, ◌<◌, ◌≤◌, ◌^◌, ℕ, true, false};
 ghost use Rattle.ata_taskfile.specs.TaskFile.{holds_reset};
+ghost use Rattle.ata_taskfile.specs.Order.{has_range};
 ghost use Rattle.ata_taskfile.specs.Data.{gives_words};
 ghost use Rattle.ata_taskfile.specs.Lawful.{is_in_reset, is_just_taken, has_order};
 ghost use Rattle.ata_taskfile.specs.declared.Phase.TheVariants.{Busy};
@@ -14,6 +15,7 @@ ghost use Rattle.guest_view.specs.Steps.{after_reset, after_offer, after_refusal
 
 use ata_taskfile::registers::BLOCK_WORDS;
 use ata_taskfile::{Phase, Refused, Request, Taken};
+use plain_drive::{failure_bit, show_failure};
 use port_lease::{MonitorSide, View};
 
 /// Ends a reset, which SRST doesn't hold.
@@ -69,6 +71,34 @@ pub fn finish(side: &mut MonitorSide)
     end_walk(&mut view);
     view.file.interrupt_in(Phase::Idle);
     *side.view_mut() = view;
+}
+
+/// Ends an order that failed at position `done`, with its walk: the address registers name the sector at which it did,
+/// where it has any.
+#[tactic(auto, using(crate::proofs::StepsFit::failure_fits))]
+pub fn fail(side: &mut MonitorSide, order: Request, done: u32)
+    requires at_work { (view_held side.old).file.phase ≡ Busy (Good order) done }
+    requires within { order.first + order.count < 2 ^ 64 }
+    requires position { has_range order.kind ≡ true → done ≤ order.count }
+    ensures view { view_held side.new ≡ after_failure order done (view_held side.old) }
+    ensures own { has_own side.new ≡ has_own side.old }
+    ensures fits { (sectors : ℕ) → FitsView (view_held side.old) sectors
+        → FitsView (view_held side.new) sectors }
+{
+    let mut view = *side.view();
+    fail_view(&mut view, order, done);
+    *side.view_mut() = view;
+}
+
+// The failed end, over the view alone.
+fn fail_view(view: &mut View, order: Request, done: u32)
+    requires within { order.first + order.count < 2 ^ 64 }
+    requires position { has_range order.kind ≡ true → done ≤ order.count }
+    ensures { view.new ≡ after_failure order done view.old }
+{
+    end_walk(view);
+    show_failure(&mut view.file, order, done);
+    view.file.end_failed(failure_bit(order.kind));
 }
 
 // The walk of a command in hand ends with it, where the bus master moves its sectors.
