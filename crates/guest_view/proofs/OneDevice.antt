@@ -88,17 +88,17 @@ ended-line v d g f false e low same =
     file-alone v d g f (λ b. ap (λ l. raised (line v.file) l b) is ∙ fallen (line v.file) b)
 
 -- nIEN stays where HOB is cleared
-masks : (c : ℕ) → has_bit NIEN (bit_and c 127) ≡ has_bit NIEN c
+pub masks : (c : ℕ) → has_bit NIEN (bit_and c 127) ≡ has_bit NIEN c
 masks c = ap (λ n. not (n == 0)) (and_assoc 2 c 127)
 
 -- and where Device Control is written
-nien-kept : (x : ℕ) → has_bit NIEN (bit_and x 134) ≡ has_bit NIEN x
-nien-kept x = ap (λ n. not (n == 0)) (and_assoc 2 x 134)
+pub nien_kept : (x : ℕ) → has_bit NIEN (bit_and x 134) ≡ has_bit NIEN x
+nien_kept x = ap (λ n. not (n == 0)) (and_assoc 2 x 134)
 
 -- what reaches the drive as nIEN is that alone, and begins no reset
-nien-alone : (m : Bool) → has_bit NIEN (bit_and (nien_of m) 134) ≡ m
-nien-alone true = refl
-nien-alone false = refl
+pub nien_alone : (m : Bool) → has_bit NIEN (bit_and (nien_of m) 134) ≡ m
+nien_alone true = refl
+nien_alone false = refl
 
 pub nien_reached : (m : Bool) (d : Device) → after_write8 reg.Alternate (nien_of m) d
     ≡ with_file (record d.file { control = bit_and (nien_of m) 134 }) d
@@ -116,7 +116,7 @@ pub same_nien : (v : View) (d : Device) (x : ℕ) → d.file.pending ≡ v.file.
     ≡ line (record v.file { control = bit_and x 134 })
 same_nien v d x pends =
     ap (λ p. p && not (has_bit NIEN (bit_and (nien_of (has_bit NIEN x)) 134))) pends
-    ∙ ap (λ m. v.file.pending && not m) (nien-alone (has_bit NIEN x) ∙ sym (nien-kept x))
+    ∙ ap (λ m. v.file.pending && not m) (nien_alone (has_bit NIEN x) ∙ sym (nien_kept x))
 
 module _ (waits : Bool) (v : View) (d g : Device) (step : IsInStep waits v d) where
   -- a read of a register

@@ -20,6 +20,7 @@ use Rattle.port_lease.specs.declared.view.View.{View}
 use Rattle.port_lease.specs.Handover.{IsOrdered}
 use Rattle.guest_view.specs.View.{view_with_file, view_with_phase, view_wrote, view_after}
 use Rattle.guest_view.specs.Fits.{FitsView}
+use Rattle.guest_view.proofs.Commands.{read_phase}
 
 -- no command was just taken where the drive isn't at work
 not-fresh : (phase : Phase) → is_at_work phase ≡ false → is_just_taken phase ≡ false
@@ -140,10 +141,6 @@ module _ (v : View) (n : ℕ) (fits : FitsView v n) where
   unfolding device
   is_lawful = subst (λ words. IsLawfulState v.file v.bus words n) (sym (length-replicate {A = ℕ} 256 0)) (state_of v n fits)
 
-  -- after a read of Data a command was just taken where it was before
-  read-ordered : (phase : Phase) → is_just_taken (phase_after_read phase) ≡ true → phase_after_read phase ≡ phase
-  read-ordered phase fresh = grind arith
-
   -- a read of Data
   data-fits : FitsView (view_with_phase (phase_after_read v.file.phase) v) n
   unfolding device
@@ -151,7 +148,7 @@ module _ (v : View) (n : ℕ) (fits : FitsView v n) where
       (subst (λ words. IsLawfulState (record v.file { phase = phase_after_read v.file.phase }) v.bus words n)
       (length-replicate {A = ℕ} 256 0) (accessed-lawful access.ReadWord device is_lawful))
       (λ fresh. subst (λ phase. is_just_taken phase ≡ true → IsOrdered (view_with_phase phase v) v.file.command n)
-      (sym (read-ordered v.file.phase fresh)) fits.ordered fresh) (read-served v.file.phase fits.served)
+      (sym (read_phase v.file.phase fresh)) fits.ordered fresh) (read-served v.file.phase fits.served)
 
   -- a write of the pointer
   pointer-fits : (x : ℕ) → FitsView (record v { bus = pointer_written x v.bus }) n

@@ -1,5 +1,5 @@
 -- What of a guest's access on the monitor's side reaches the drive.
-use Rattle.std.specs.Prelude.{ℕ, Bool, not, ◌&&◌, ◌||◌, if◌then◌else◌}
+use Rattle.std.specs.Prelude.{◌≡◌, ℕ, Bool, not, ◌&&◌, ◌||◌, if◌then◌else◌}
 use Rattle.ata_taskfile.specs.declared.Reg.{Reg}
 use Rattle.ata_taskfile.specs.declared.Reg.TheVariants as reg
 use Rattle.ata_taskfile.specs.declared.Access.{Access}
@@ -57,3 +57,10 @@ drive_after waits v (access.WriteWord w) d = d
 drive_after waits v access.ReadPointer d = d
 drive_after waits v (access.WritePointer x) d = d
 drive_after waits v access.Line d = d
+
+-- nothing of a drive changed but Device Control, whether an interrupt pends, and the bus master's error and interrupt
+-- bit: its command, its block and its sectors are as they were
+pub record LeavesWork (old new : Device) : Type 0 where
+  pub file : new.file ≡ record old.file { control = new.file.control; pending = new.file.pending }
+  pub bus : new.bus ≡ record old.bus { error = new.bus.error; interrupt = new.bus.interrupt }
+  pub others : new ≡ record old { file = new.file; bus = new.bus }

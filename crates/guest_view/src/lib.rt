@@ -17,8 +17,9 @@ mod writing;
 
 pub use accesses::{access, takes_command};
 pub use laws::{
-    accesses_are_the_guests, ended_resets_are_the_guests, ends_are_the_guests,
-    failures_are_the_guests, offered_blocks_are_the_guests, refusals_are_the_guests,
+    accesses_are_the_guests, accesses_keep_what_is_alike, accesses_leave_the_drives_work,
+    ended_resets_are_the_guests, ends_are_the_guests, failures_are_the_guests,
+    offered_blocks_are_the_guests, refusals_are_the_guests, taken_commands_are_in_hand,
     views_stay_lawful,
 };
 pub use steps::{end_reset, fail, finish, offer, refuse};
