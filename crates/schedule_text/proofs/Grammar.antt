@@ -1,18 +1,23 @@
 -- What a line says: one event at most.
-use Rattle.std.proofs.Common.{ℕ, ◌≡◌, ◌<◌, ◌≤◌, ◌^◌, ◌++◌, ◌==◌, if◌then◌else◌, List, [], ◌∷◌, length, length-append, codes, decimal, get_or, drop, ap, sym, ◌∙◌, subst, refl, arith, append-nil, Result, Ok, Err, MatchResult, inl, inr}
+use Rattle.std.proofs.Common.{ℕ, ◌≡◌, ◌<◌, ◌≤◌, ◌^◌, ◌++◌, ◌==◌, if◌then◌else◌, Bool, true, false, List, [], ◌∷◌, length, length-append, codes, decimal, get_or, drop, ap, ap₂, sym, ◌∙◌, subst, refl, arith, append-nil, Result, Ok, Err, MatchResult, inl, inr}
 use Rattle.std.specs.Str.Parse.{digits_value}
 use Rattle.std.proofs.lemmas.Fmt.{length-decimal-le}
 use Rattle.ata_taskfile.specs.declared.Reg.{Reg}
 use Rattle.ata_taskfile.specs.declared.Reg.TheVariants as reg
 use Rattle.ata_taskfile.specs.declared.Step.TheVariants as step
+use Rattle.aoe_frame.specs.declared.frame.TheConstants.{MOST_BYTES}
+use Rattle.aoe_net.specs.declared.way.Way.{Way}
+use Rattle.aoe_net.specs.declared.way.Way.TheVariants.{ToServer, ToClient}
+use Rattle.decimal_text.specs.Decimal.{IsDecimal}
 use Rattle.decimal_text.proofs.Decimals.{decimal_told}
 use Rattle.schedule_text.specs.declared.Event.{Event}
 use Rattle.schedule_text.specs.declared.Event.TheVariants as event
 use Rattle.schedule_text.specs.declared.LineFault.{LineFault}
 use Rattle.schedule_text.specs.declared.LineFault.TheVariants as fault
 use Rattle.schedule_text.specs.declared.TheConstants.{LINE_BYTES}
-use Rattle.schedule_text.specs.Line.{register_text, hex_byte, hex_text, hex_long, IsInRange, IsTextOf, Says, HasFault, IsOutOfRange}
+use Rattle.schedule_text.specs.Line.{register_text, way_text, stray_text, keep_text, hex_byte, hex_text, hex_long, IsInRange, IsTextOf, Says, HasFault, IsOutOfRange}
 use Rattle.schedule_text.proofs.Hex.{told_bytes, told_bytes-hex_text, told_long, told_long-hex_long, byte_value, byte_value-hex_byte, length-hex_text}
+use Rattle.schedule_text.proofs.Places.{first_word, has_space, place_told}
 
 -- the register that two bytes name
 abbrev named : ℕ → ℕ → Reg
@@ -54,9 +59,23 @@ told_act line = if get_or line 2 0 == 111 then event.Drive step.Good else if get
     then event.Drive step.Bad
     else event.Destage (digits_value 10 (drop 6 line))
 
+-- the way that a byte names
+abbrev way_of : ℕ → Way
+way_of c = if c == 115 then ToServer else ToClient
+
+abbrev told_network : List ℕ → Event
+told_network line = if get_or line 2 0 == 108 then event.Lose (way_of (get_or line 3 0))
+    (digits_value 10 (drop 5 line))
+    else if get_or line 2 0 == 120 then event.Stray ToClient (told_bytes (drop 4 line))
+    else if get_or line 2 0 == 121 then event.Stray ToServer (told_bytes (drop 4 line))
+    else event.Deliver (way_of (get_or line 2 0)) (digits_value 10 (first_word (drop 4 line)))
+    (has_space (drop 4 line))
+
 -- the event of a line, where it says one
 abbrev pub told : List ℕ → Event
 told line = if get_or line 0 0 == 103 then told_access line else if get_or line 0 0 == 100 then told_act line
+    else if get_or line 0 0 == 110 then told_network line else if get_or line 0 0 == 116 then event.Turn
+    else if get_or line 0 0 == 107 then event.Tick
     else if get_or line 0 0 == 99 then event.Cut else if get_or line 0 0 == 101 then event.End else event.Remark
 
 -- a register's name has two bytes, and they tell it
@@ -80,6 +99,23 @@ told_remark (c ∷ rest) (note, short) = ap (λ (d : ℕ). told (d ∷ rest)) no
 told_pointer : (v : ℕ) → v < 2 ^ 32 → told_long (hex_long v) ≡ v
 told_pointer v small = ap told_long (sym (append-nil (hex_long v))) ∙ told_long-hex_long v [] small
 
+told_delivered : (way : Way) (t : List ℕ) (keep : Bool) → IsDecimal t
+    → told (codes "n " ++ way_text way ++ 32 ∷ t ++ keep_text keep) ≡ event.Deliver way (digits_value 10 t) keep
+told_delivered ToServer t keep whole = let place = place_told t keep whole in
+    ap₂ (λ (u : List ℕ) (k : Bool). event.Deliver ToServer (digits_value 10 u) k) place.0 place.1
+told_delivered ToClient t keep whole = let place = place_told t keep whole in
+    ap₂ (λ (u : List ℕ) (k : Bool). event.Deliver ToClient (digits_value 10 u) k) place.0 place.1
+
+told_lost : (way : Way) (t : List ℕ)
+    → told (codes "n l" ++ way_text way ++ 32 ∷ t) ≡ event.Lose way (digits_value 10 t)
+told_lost ToServer t = refl
+told_lost ToClient t = refl
+
+told_stray : (way : Way) (t : List ℕ)
+    → told (codes "n " ++ stray_text way ++ 32 ∷ t) ≡ event.Stray way (told_bytes t)
+told_stray ToServer t = refl
+told_stray ToClient t = refl
+
 -- a line tells the event that it says
 pub told_said : (line : List ℕ) (e : Event) → Says line e → told line ≡ e
 told_said line (event.Read8 r) (range, is) = ap told is ∙ ap event.Read8 (named-register_text r)
@@ -100,11 +136,16 @@ told_said line event.Line (range, is) = ap told is
 told_said line (event.Drive step.Good) (range, is) = ap told is
 told_said line (event.Drive step.Bad) (range, is) = ap told is
 told_said line (event.Destage k) (range, is) = ap told is ∙ ap event.Destage (decimal_told k (omega arith)).1
-told_said line (event.Deliver way k keep) (range, is) = absurd is
-told_said line (event.Lose way k) (range, is) = absurd is
-told_said line (event.Stray way frame) (range, is) = absurd is
-told_said line event.Turn (range, is) = absurd is
-told_said line event.Tick (range, is) = absurd is
+told_said line (event.Deliver way k keep) (range, is) =
+    let number = decimal_told k (omega arith) in
+    ap told is ∙ told_delivered way (decimal k) keep number.0 ∙
+    ap (λ (n : ℕ). event.Deliver way n keep) number.1
+told_said line (event.Lose way k) (range, is) =
+    ap told is ∙ told_lost way (decimal k) ∙ ap (event.Lose way) (decimal_told k (omega arith)).1
+told_said line (event.Stray way frame) (range, is) =
+    ap told is ∙ told_stray way (hex_text frame) ∙ ap (event.Stray way) (told_bytes-hex_text frame range.0)
+told_said line event.Turn (range, is) = ap told is
+told_said line event.Tick (range, is) = ap told is
 told_said line event.Cut (range, is) = ap told is
 told_said line event.Remark (range, is) = told_remark line is
 told_said line event.End (range, is) = ap told is
@@ -112,6 +153,25 @@ told_said line event.End (range, is) = ap told is
 -- a line says one event at most
 pub says_once : (line : List ℕ) (a b : Event) → Says line a → Says line b → a ≡ b
 says_once line a b said other = sym (told_said line a said) ∙ told_said line b other
+
+length-keep_text : (keep : Bool) → length (keep_text keep) ≤ 5
+length-keep_text true = omega arith
+length-keep_text false = omega arith
+
+-- the lines of the network are short
+delivered_short : (way : Way) (t : List ℕ) (keep : Bool) → length t ≤ 2
+    → length (codes "n " ++ way_text way ++ 32 ∷ t ++ keep_text keep) ≤ LINE_BYTES
+delivered_short ToServer t keep short = omega (arith, length-append t (keep_text keep), length-keep_text keep)
+delivered_short ToClient t keep short = omega (arith, length-append t (keep_text keep), length-keep_text keep)
+
+lost_short : (way : Way) (t : List ℕ) → length t ≤ 2 → length (codes "n l" ++ way_text way ++ 32 ∷ t) ≤ LINE_BYTES
+lost_short ToServer t short = omega arith
+lost_short ToClient t short = omega arith
+
+stray_short : (way : Way) (frame : List ℕ) → length frame ≤ MOST_BYTES
+    → length (codes "n " ++ stray_text way ++ 32 ∷ hex_text frame) ≤ LINE_BYTES
+stray_short ToServer frame short = omega (arith, length-hex_text frame)
+stray_short ToClient frame short = omega (arith, length-hex_text frame)
 
 -- a line that says an event isn't long
 pub says_short : (line : List ℕ) (e : Event) → Says line e → length line ≤ LINE_BYTES
@@ -141,11 +201,14 @@ says_short line (event.Drive step.Good) (range, is) = omega (arith, ap length is
 says_short line (event.Drive step.Bad) (range, is) = omega (arith, ap length is)
 says_short line (event.Destage k) (range, is) =
     omega (arith, ap length is, length-decimal-le 2 k (omega arith) (omega arith) (omega arith))
-says_short line (event.Deliver way k keep) (range, is) = absurd is
-says_short line (event.Lose way k) (range, is) = absurd is
-says_short line (event.Stray way frame) (range, is) = absurd is
-says_short line event.Turn (range, is) = absurd is
-says_short line event.Tick (range, is) = absurd is
+says_short line (event.Deliver way k keep) (range, is) = subst (λ z. length z ≤ LINE_BYTES) (sym is)
+    (delivered_short way (decimal k) keep (length-decimal-le 2 k (omega arith) (omega arith) (omega arith)))
+says_short line (event.Lose way k) (range, is) = subst (λ z. length z ≤ LINE_BYTES) (sym is)
+    (lost_short way (decimal k) (length-decimal-le 2 k (omega arith) (omega arith) (omega arith)))
+says_short line (event.Stray way frame) (range, is) = subst (λ z. length z ≤ LINE_BYTES) (sym is)
+    (stray_short way frame range.2)
+says_short line event.Turn (range, is) = omega (arith, ap length is)
+says_short line event.Tick (range, is) = omega (arith, ap length is)
 says_short line event.Cut (range, is) = omega (arith, ap length is)
 says_short line event.Remark (range, is) = is.1
 says_short line event.End (range, is) = omega (arith, ap length is)
@@ -159,7 +222,13 @@ pub says_in_range : (line : List ℕ) (e : Event) → Says line e → ¬ IsOutOf
 says_in_range line e said (short, inl (text, is, beyond)) = beyond.1 (range_told line e (codes "g rd " ++ text) said is)
 says_in_range line e said (short, inr (inl (a, text, small, is, beyond))) = let range =
     range_told line e (codes "g mr " ++ hex_long a ++ 32 ∷ text) said is in beyond.1 (range.1, range.2)
-says_in_range line e said (short, inr (inr (text, is, beyond))) =
+says_in_range line e said (short, inr (inr (inl (way, keep, text, is, beyond)))) =
+    let range = range_told line e (codes "n " ++ way_text way ++ 32 ∷ text ++ keep_text keep) said is in
+    beyond.1 (omega arith, subst IsInRange (told_delivered way text keep beyond.0) range)
+says_in_range line e said (short, inr (inr (inr (inl (way, text, is, beyond))))) =
+    let range = range_told line e (codes "n l" ++ way_text way ++ 32 ∷ text) said is in
+    beyond.1 (omega arith, subst IsInRange (told_lost way text) range)
+says_in_range line e said (short, inr (inr (inr (inr (text, is, beyond))))) =
     beyond.1 (omega arith, range_told line e (codes "d put " ++ text) said is)
 
 -- the answer to a line: what it says, or its fault

@@ -1,4 +1,5 @@
 pub mod Hex
+pub mod Places
 pub mod Grammar
 pub mod Forms
 pub mod Lines

@@ -214,6 +214,8 @@ fails_here fault.TooMany number events more left fails next begins on =
 -- behind the same events, with the same bytes left, there is one fault
 one_fault : (k l : LineFault) (number : ℕ) (events : List Event) (left : List ℕ) → FailsWith k number events left
     → FailsWith l number events left → k ≡ l
+one_fault fault.Form fault.Number number events left first second = absurd (first.fails.2 second.fails)
+one_fault fault.Number fault.Form number events left first second = absurd (second.fails.2 first.fails)
 one_fault k l number events left first second =
     grind (arith, ended events, says_short (first_line left), says_in_range (first_line left))
 

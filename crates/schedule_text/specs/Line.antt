@@ -113,14 +113,15 @@ IsTextOf (event.ReadMemory a n) line = line ≡ codes "g mr " ++ hex_long a ++ 3
 IsTextOf (event.WriteMemory a bytes) line =
     line ≡ codes "g mw " ++ hex_long a ++ 32 ∷ hex_text bytes
 IsTextOf event.Line line = line ≡ codes "g line"
-IsTextOf (event.Deliver way k keep) line = ⊥
-IsTextOf (event.Lose way k) line = ⊥
-IsTextOf (event.Stray way frame) line = ⊥
+IsTextOf (event.Deliver way k keep) line =
+    line ≡ codes "n " ++ way_text way ++ 32 ∷ decimal k ++ keep_text keep
+IsTextOf (event.Lose way k) line = line ≡ codes "n l" ++ way_text way ++ 32 ∷ decimal k
+IsTextOf (event.Stray way frame) line = line ≡ codes "n " ++ stray_text way ++ 32 ∷ hex_text frame
 IsTextOf (event.Drive step.Good) line = line ≡ codes "d ok"
 IsTextOf (event.Drive step.Bad) line = line ≡ codes "d bad"
 IsTextOf (event.Destage k) line = line ≡ codes "d put " ++ decimal k
-IsTextOf event.Turn line = ⊥
-IsTextOf event.Tick line = ⊥
+IsTextOf event.Turn line = line ≡ codes "t"
+IsTextOf event.Tick line = line ≡ codes "k"
 IsTextOf event.Cut line = line ≡ codes "cut"
 IsTextOf event.Remark line = IsRemark line × (length line ≤ LINE_BYTES)
 IsTextOf event.End line = line ≡ codes "end"
@@ -134,12 +135,39 @@ abbrev pub IsBeyond : ℕ → ℕ → List ℕ → Type 0
 IsBeyond low high text =
     IsDecimal text × ¬ ((low ≤ digits_value 10 text) × (digits_value 10 text ≤ high))
 
--- a line has an event's shape up to its decimal number, and that number is out of range (own)
+-- a read of words, but for a count of them that is out of range (own)
+abbrev pub HasWordsBeyond : List ℕ → Type 0
+HasWordsBeyond line =
+    (text : List ℕ) × (line ≡ codes "g rd " ++ text) × IsBeyond 1 EVENT_WORDS text
+
+-- the same of a read of the guest's memory and its count of bytes (own)
+abbrev pub HasBytesBeyond : List ℕ → Type 0
+HasBytesBeyond line = (a : ℕ) × (text : List ℕ) × (a < 2 ^ 32)
+    × (line ≡ codes "g mr " ++ hex_long a ++ 32 ∷ text) × IsBeyond 1 EVENT_BYTES text
+
+-- the same of a frame that is delivered and its place, whether or not the frame stays (own)
+abbrev pub HasDeliveredBeyond : List ℕ → Type 0
+HasDeliveredBeyond line = (way : Way) × (keep : Bool) × (text : List ℕ)
+    × (line ≡ codes "n " ++ way_text way ++ 32 ∷ text ++ keep_text keep)
+    × IsBeyond 0 LAST_PLACE text
+
+-- the same of a frame that is lost and its place (own)
+abbrev pub HasLostBeyond : List ℕ → Type 0
+HasLostBeyond line = (way : Way) × (text : List ℕ)
+    × (line ≡ codes "n l" ++ way_text way ++ 32 ∷ text) × IsBeyond 0 LAST_PLACE text
+
+-- the same of an entry of the drive's cache and its place (own)
+abbrev pub HasEntryBeyond : List ℕ → Type 0
+HasEntryBeyond line =
+    (text : List ℕ) × (line ≡ codes "d put " ++ text) × IsBeyond 0 LAST_PLACE text
+
+-- a line has an event's shape, and its decimal number is out of range (own)
 abbrev pub HasBeyond : List ℕ → Type 0
-HasBeyond line = ((text : List ℕ) × (line ≡ codes "g rd " ++ text) × IsBeyond 1 EVENT_WORDS text)
-    ⊎ ((a : ℕ) × (text : List ℕ) × (a < 2 ^ 32) × (line ≡ codes "g mr " ++ hex_long a ++ 32 ∷ text)
-    × IsBeyond 1 EVENT_BYTES text)
-    ⊎ ((text : List ℕ) × (line ≡ codes "d put " ++ text) × IsBeyond 0 LAST_PLACE text)
+HasBeyond line = HasWordsBeyond line
+    ⊎ HasBytesBeyond line
+    ⊎ HasDeliveredBeyond line
+    ⊎ HasLostBeyond line
+    ⊎ HasEntryBeyond line
 
 -- the same of a line that isn't too long
 abbrev pub IsOutOfRange : List ℕ → Type 0

@@ -1,13 +1,15 @@
 //! The parts of a schedule's line: names of registers, hexadecimal and decimal numbers.
 
-ghost use Rattle.std.specs.Prelude.{◌≡◌, ◌≢◌, ◌<◌, ◌*◌, ◌^◌, ◌++◌, ◌∷◌, [], ℕ, List, length, IfSome, MatchOption};
+ghost use Rattle.std.specs.Prelude.{◌≡◌, ◌≢◌, ◌<◌, ◌≤◌, ◌*◌, ◌^◌, ◌++◌, ◌∷◌, [], ℕ, Bool, List};
+ghost use Rattle.std.specs.Prelude.{length, take, IfSome, MatchOption};
 ghost use Rattle.std.specs.Bool.{OnTrue, OnFalse};
 ghost use Rattle.ata_taskfile.specs.declared.Reg.{Reg as RegOf};
 ghost use Rattle.schedule_text.specs.Line.{register_text, hex_digit, hex_byte, hex_text, hex_long};
-ghost use Rattle.schedule_text.specs.Line.{value_of, AreBytes, AreSomeBytes, ReadsNumber};
+ghost use Rattle.schedule_text.specs.Line.{value_of, keep_text, AreBytes, AreSomeBytes, ReadsNumber};
+ghost use Rattle.decimal_text.specs.Decimal.{IsDecimal};
 
 use crate::LineFault;
-use aoe_frame::Bytes;
+use aoe_frame::{Bytes, Frame, MOST_BYTES};
 use ata_taskfile::Reg;
 use decimal_text::{is_decimal, value};
 
@@ -47,17 +49,40 @@ pub(crate) fn bytes<const N: usize>(text: &[u8]) -> Option<Bytes<N>>
         ((all : List ℕ) → AreSomeBytes N all → text.now ≢ hex_text all)
         (λ all. AreSomeBytes N all × (text.now ≡ hex_text all)) }
 {
-    let count = text.len() / 2;
-    if text.is_empty() || text.len() % 2 != 0 || count > N {
-        return None;
-    }
     let mut room = [0; N];
-    if !put_bytes(text, &mut room[..count]) {
-        return None;
-    }
+    let count = put_some_bytes(text, &mut room)?;
     let mut bytes = Bytes::new();
     bytes.append(&room[..count]);
     Some(bytes)
+}
+
+// The same as a frame.
+pub(crate) fn frame(text: &[u8]) -> Option<Frame>
+    ensures told { MatchOption result
+        ((all : List ℕ) → AreSomeBytes MOST_BYTES all → text.now ≢ hex_text all)
+        (λ all. AreSomeBytes MOST_BYTES all × (text.now ≡ hex_text all)) }
+{
+    let mut room = [0; MOST_BYTES];
+    let count = put_some_bytes(text, &mut room)?;
+    Frame::from_slice(&room[..count])
+}
+
+// The bytes of a text of one byte or more, of two digits each, at the start of `room`; how many.
+fn put_some_bytes(text: &[u8], room: &mut [u8]) -> Option<usize>
+    ensures told { MatchOption result
+        ((all : List ℕ) → AreSomeBytes (length room.old) all → text.now ≢ hex_text all)
+        (λ count. (count ≤ length room.old) × AreSomeBytes (length room.old) (take count room.new)
+        × (text.now ≡ hex_text (take count room.new))) }
+    ensures len { length room.new ≡ length room.old }
+{
+    let count = text.len() / 2;
+    if text.is_empty() || text.len() % 2 != 0 || count > room.len() {
+        return None;
+    }
+    if !put_bytes(text, &mut room[..count]) {
+        return None;
+    }
+    Some(count)
 }
 
 // The bytes of a text of two digits each, in place of what `bytes` holds; whether the text has such digits alone.
@@ -148,6 +173,18 @@ fn digit_value(c: u8) -> u8
         b'0'..=b'9' => c - b'0',
         b'a'..=b'f' => c - b'a' + 10,
         _ => 255,
+    }
+}
+
+// The digits of a frame's place, and whether the frame stays in its list.
+pub(crate) fn digits_and_keep(text: &[u8]) -> (&[u8], bool)
+    ensures told { text.now ≡ result.0.now ++ keep_text result.1 }
+    ensures only { (digits : List ℕ) (keep : Bool) → IsDecimal digits
+        → text.now ≡ digits ++ keep_text keep → (result.0.now ≡ digits) × (result.1 ≡ keep) }
+{
+    match text.strip_suffix(b" keep") {
+        Some(digits) => (digits, true),
+        None => (text, false),
     }
 }
 

@@ -3,10 +3,14 @@
 ghost use Rattle.std.specs.Prelude.{◌≡◌, ◌<◌, ◌≤◌, ◌+◌, ◌++◌, ◌∷◌, ◌↔◌, ℕ, List};
 ghost use Rattle.std.specs.Prelude.{length, codes, IfOk, IfErr};
 ghost use Rattle.schedule_text.specs.declared.Event.{Event as EventOf};
-ghost use Rattle.schedule_text.specs.Line.{hex_long, Says, ReadsInto, HasFault, IsOutOfRange, IsFormless};
+ghost use Rattle.schedule_text.specs.Line.{way_text, stray_text, hex_long};
+ghost use Rattle.schedule_text.specs.Line.{Says, ReadsInto, HasFault, IsOutOfRange, IsFormless};
 
-use crate::parts::{address_and_rest, bytes, long, number, register, register_and_byte};
+use crate::parts::{
+    address_and_rest, bytes, digits_and_keep, frame, long, number, register, register_and_byte,
+};
 use crate::{EVENT_BYTES, EVENT_WORDS, Event, LAST_PLACE, LINE_BYTES, LineFault};
+use aoe_net::Way;
 use ata_taskfile::Step;
 
 /// What one line of a schedule says. `line` is without its line feed.
@@ -47,6 +51,9 @@ fn read_short_line(line: &[u8], event: &mut Event) -> Result<(), LineFault>
     match line {
         [b'g', b' ', access @ ..] => return read_access(access, event),
         [b'd', b' ', act @ ..] => return read_act(act, event),
+        [b'n', b' ', act @ ..] => return read_network(act, event),
+        b"t" => *event = Event::Turn,
+        b"k" => *event = Event::Tick,
         [] | [b'#', ..] => *event = Event::Remark,
         b"cut" => *event = Event::Cut,
         b"end" => *event = Event::End,
@@ -87,6 +94,22 @@ fn read_act(act: &[u8], event: &mut Event) -> Result<(), LineFault>
         _ => return Err(LineFault::Form),
     }
     Ok(())
+}
+
+// An act of the network.
+fn read_network(act: &[u8], event: &mut Event) -> Result<(), LineFault>
+    requires { 2 + length act.now ≤ LINE_BYTES }
+    ensures reads { ReadsInto (codes "n " ++ act.now) event.new result }
+{
+    match act {
+        [b's', b' ', rest @ ..] => read_deliver(Way::ToServer, rest, event),
+        [b'c', b' ', rest @ ..] => read_deliver(Way::ToClient, rest, event),
+        [b'l', b's', b' ', digits @ ..] => read_lose(Way::ToServer, digits, event),
+        [b'l', b'c', b' ', digits @ ..] => read_lose(Way::ToClient, digits, event),
+        [b'x', b' ', hex @ ..] => read_stray(Way::ToClient, hex, event),
+        [b'y', b' ', hex @ ..] => read_stray(Way::ToServer, hex, event),
+        _ => Err(LineFault::Form),
+    }
 }
 
 fn read_read8(name: &[u8], event: &mut Event) -> Result<(), LineFault>
@@ -199,6 +222,40 @@ fn read_destage(digits: &[u8], event: &mut Event) -> Result<(), LineFault>
     match number(digits, 0, LAST_PLACE) {
         Ok(place) => *event = Event::Destage(place),
         Err(fault) => return Err(fault),
+    }
+    Ok(())
+}
+
+fn read_deliver(way: Way, rest: &[u8], event: &mut Event) -> Result<(), LineFault>
+    requires { 4 + length rest.now ≤ LINE_BYTES }
+    ensures reads { ReadsInto (codes "n " ++ way_text way ++ 32 ∷ rest.now) event.new result }
+{
+    let (digits, keep) = digits_and_keep(rest);
+    match number(digits, 0, LAST_PLACE) {
+        Ok(place) => *event = Event::Deliver(way, place, keep),
+        Err(fault) => return Err(fault),
+    }
+    Ok(())
+}
+
+fn read_lose(way: Way, digits: &[u8], event: &mut Event) -> Result<(), LineFault>
+    requires { 5 + length digits.now ≤ LINE_BYTES }
+    ensures reads { ReadsInto (codes "n l" ++ way_text way ++ 32 ∷ digits.now) event.new result }
+{
+    match number(digits, 0, LAST_PLACE) {
+        Ok(place) => *event = Event::Lose(way, place),
+        Err(fault) => return Err(fault),
+    }
+    Ok(())
+}
+
+fn read_stray(way: Way, hex: &[u8], event: &mut Event) -> Result<(), LineFault>
+    requires { 4 + length hex.now ≤ LINE_BYTES }
+    ensures reads { ReadsInto (codes "n " ++ stray_text way ++ 32 ∷ hex.now) event.new result }
+{
+    match frame(hex) {
+        Some(frame) => *event = Event::Stray(way, frame),
+        None => return Err(LineFault::Form),
     }
     Ok(())
 }

@@ -66,6 +66,22 @@ const OTHERS: [(&[u8], Event); 13] = [
     (b"end", Event::End),
 ];
 
+// The same of the network, but for stray frames, and of time.
+const NETWORK: [(&[u8], Event); 12] = [
+    (b"n s 0", Event::Deliver(Way::ToServer, 0, false)),
+    (b"n s 9 keep", Event::Deliver(Way::ToServer, 9, true)),
+    (b"n s 63", Event::Deliver(Way::ToServer, 63, false)),
+    (b"n c 0 keep", Event::Deliver(Way::ToClient, 0, true)),
+    (b"n c 10", Event::Deliver(Way::ToClient, 10, false)),
+    (b"n c 63 keep", Event::Deliver(Way::ToClient, 63, true)),
+    (b"n ls 0", Event::Lose(Way::ToServer, 0)),
+    (b"n ls 63", Event::Lose(Way::ToServer, 63)),
+    (b"n lc 7", Event::Lose(Way::ToClient, 7)),
+    (b"n lc 62", Event::Lose(Way::ToClient, 62)),
+    (b"t", Event::Turn),
+    (b"k", Event::Tick),
+];
+
 #[test]
 fn events_of_lines(rt: HostRuntime) {
     for (line, event) in REGISTERS {
@@ -75,6 +91,9 @@ fn events_of_lines(rt: HostRuntime) {
         assert_eq!(rt; read_line(line), Ok(event), "at {line:?}");
     }
     for (line, event) in OTHERS {
+        assert_eq!(rt; read_line(line), Ok(event), "at {line:?}");
+    }
+    for (line, event) in NETWORK {
         assert_eq!(rt; read_line(line), Ok(event), "at {line:?}");
     }
 }
@@ -109,6 +128,21 @@ fn written_memory(rt: HostRuntime) {
     for (line, address, bytes) in cases {
         let event = Event::WriteMemory(address, list(bytes));
         assert_eq!(rt; read_line(line), Ok(event), "at {line:?}");
+    }
+}
+
+#[test]
+fn stray_frames(rt: HostRuntime) {
+    // A line; the way at whose end its frame comes, `x` to the client and `y` to the server, and the frame's bytes.
+    let cases: [(&[u8], Way, &[u8]); 4] = [
+        (b"n x 00", Way::ToClient, &[0]),
+        (b"n y ff", Way::ToServer, &[255]),
+        (b"n x 0a0b", Way::ToClient, &[10, 11]),
+        (b"n y 88a2f0", Way::ToServer, &[136, 162, 240]),
+    ];
+    for (line, way, bytes) in cases {
+        let event = Frame::from_slice(bytes).map(|frame| Event::Stray(way, frame));
+        assert_eq!(rt; read_line(line).ok(), event, "at {line:?}");
     }
 }
 
@@ -215,7 +249,7 @@ const FORMLESS_MEMORY: [&[u8]; 37] = [
 ];
 
 // The same of what isn't the guest's.
-const FORMLESS_OTHERS: [&[u8]; 26] = [
+const FORMLESS_OTHERS: [&[u8]; 24] = [
     b"d ok ",
     b"d bad ",
     b"d ba",
@@ -232,16 +266,63 @@ const FORMLESS_OTHERS: [&[u8]; 26] = [
     b"END",
     b"g",
     b"d",
-    b"t",
-    b"k",
-    b"n s 0",
-    b"n c 0 keep",
-    b"n ls 1",
-    b"n lc 1",
-    b"n x 00",
-    b"n y 00",
+    b"t ",
+    b"t 1",
+    b"T",
+    b"k ",
+    b"kk",
+    b" k",
     b"D ok",
     b" # note",
+];
+
+// The same of the network.
+const FORMLESS_NETWORK: [&[u8]; 45] = [
+    b"n",
+    b"n ",
+    b"n s",
+    b"n s ",
+    b"n s0",
+    b"n s 01",
+    b"n s 00",
+    b"n s -1",
+    b"n s a",
+    b"n s 1 ",
+    b"n s  1",
+    b"n s keep",
+    b"n s  keep",
+    b"n s 01 keep",
+    b"n s 064 keep",
+    b"n s 1  keep",
+    b"n s 1keep",
+    b"n s 1 kept",
+    b"n s 1 Keep",
+    b"n s 1 keep ",
+    b"n s 1 keep keep",
+    b"n s 64 keep keep",
+    b"n c 1 kee",
+    b"n c 63 keeps",
+    b"n c 0x10",
+    b"n ls",
+    b"n ls ",
+    b"n ls0",
+    b"n ls 1 keep",
+    b"n ls 64 keep",
+    b"n lc 01",
+    b"n l 1",
+    b"n lx 00",
+    b"n x",
+    b"n x ",
+    b"n x 0",
+    b"n x 000",
+    b"n x 0A",
+    b"n x 00 ",
+    b"n x  00",
+    b"n y 0g",
+    b"n y 00 keep",
+    b"n z 00",
+    b"N s 1",
+    b"n\ts 1",
 ];
 
 #[test]
@@ -258,12 +339,15 @@ fn lines_of_no_form(rt: HostRuntime) {
     for line in FORMLESS_OTHERS {
         assert_eq!(rt; read_line(line), Err(LineFault::Form), "at {line:?}");
     }
+    for line in FORMLESS_NETWORK {
+        assert_eq!(rt; read_line(line), Err(LineFault::Form), "at {line:?}");
+    }
 }
 
 #[test]
 fn numbers_out_of_range(rt: HostRuntime) {
-    // The range is 1 to 256, 1 to 2,000, and 0 to 63.
-    let lines: [&[u8]; 15] = [
+    // The range is 1 to 256, 1 to 2,000, and 0 to 63 for each place.
+    let lines: [&[u8]; 25] = [
         b"g rd 0",
         b"g rd 257",
         b"g rd 258",
@@ -279,6 +363,16 @@ fn numbers_out_of_range(rt: HostRuntime) {
         b"d put 100",
         b"d put 4294967296",
         b"d put 340282366920938463463374607431768211456",
+        b"n s 64",
+        b"n s 64 keep",
+        b"n s 18446744073709551616",
+        b"n c 64",
+        b"n c 100 keep",
+        b"n c 99999999999999999999 keep",
+        b"n ls 64",
+        b"n ls 4294967296",
+        b"n lc 64",
+        b"n lc 99999999999999999999",
     ];
     for line in lines {
         assert_eq!(rt; read_line(line), Err(LineFault::Number), "at {line:?}");
@@ -287,7 +381,7 @@ fn numbers_out_of_range(rt: HostRuntime) {
 
 #[test]
 fn longest_writes(rt: HostRuntime) {
-    // 256 words and 2,000 bytes of memory are the most that a line can write.
+    // 256 words and 2,000 bytes of memory are the most that a line can write, and 1,060 bytes the most of a frame.
     let mut line = [b'a'; 4016];
     line[..5].copy_from_slice(b"g wd ");
     let words = Event::WriteWords(list(&[0xaa; 512]));
@@ -297,6 +391,10 @@ fn longest_writes(rt: HostRuntime) {
     let memory = Event::WriteMemory(0, list(&[0xaa; 2000]));
     assert_eq!(rt; read_line(&line[..4014]), Ok(memory));
     assert_eq!(rt; read_line(&line), Err(LineFault::Form));
+    line[..14].copy_from_slice(b"n y aaaaaaaaaa");
+    let frame = Frame::from_slice(&[0xaa; 1060]).map(|frame| Event::Stray(Way::ToServer, frame));
+    assert_eq!(rt; read_line(&line[..2124]).ok(), frame);
+    assert_eq!(rt; read_line(&line[..2126]), Err(LineFault::Form));
 }
 
 #[test]
@@ -307,6 +405,9 @@ fn long_lines(rt: HostRuntime) {
         (b"g rd 1", Some(LineFault::Number)),
         (b"g r8 0", Some(LineFault::Form)),
         (b"g wd 0", Some(LineFault::Form)),
+        (b"n lc 1", Some(LineFault::Number)),
+        (b"n s 0k", Some(LineFault::Form)),
+        (b"n x 00", Some(LineFault::Form)),
     ] {
         let mut line = [b'0'; LINE_BYTES + 1];
         line[..start.len()].copy_from_slice(start);
@@ -317,13 +418,19 @@ fn long_lines(rt: HostRuntime) {
 
 // By hand from the table of a report's lines: the number of the event's line, the item, its event's answer, and the
 // line.
-const REPORTED: [(u32, Item, &[u8], &[u8]); 8] = [
+const REPORTED: [(u32, Item, &[u8], &[u8]); 14] = [
     (8, Item::Answer, &[0x80], b"8 o 80\n"),
     (13, Item::Answer, &[0x0e, 0xe0, 0xff], b"13 o 0ee0ff\n"),
     (7, Item::Command(0x20, 3, 1), &[], b"7 c 20 3 1\n"),
     (100, Item::Command(0xe7, 0, 0), &[1], b"100 c e7 0 0\n"),
     (1, Item::Go(1), &[], b"1 p go 1\n"),
     (45, Item::Bad, &[], b"45 p bad\n"),
+    (28, Item::Asked(0), &[], b"28 a 0\n"),
+    (7, Item::Asked(u32::MAX), &[], b"7 a 4294967295\n"),
+    (7, Item::Ready, &[], b"7 m ready\n"),
+    (16, Item::Left, &[0], b"16 m gone\n"),
+    (9, Item::Reserved, &[], b"9 m reserved\n"),
+    (33, Item::Forged, &[], b"33 m forged\n"),
     (
         u32::MAX - 1,
         Item::Go(u32::MAX),
