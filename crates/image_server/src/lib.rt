@@ -19,5 +19,5 @@ mod serving;
 #[cfg(test)]
 mod tests;
 
-pub use reply::GOOD_STATUS;
+pub use reply::{GOOD_STATUS, MOST_SECTORS};
 pub use serving::serve;

@@ -34,7 +34,7 @@ pub(crate) const REQUESTS_KEPT: u16 = 64;
 pub(crate) const FIRMWARE: u16 = 1;
 
 /// The most sectors that a request is served (own).
-pub(crate) const MOST_SECTORS: u8 = 2;
+pub const MOST_SECTORS: u8 = 2;
 
 /// What is done with the configuration string: it is read (AoE r11, Query Config Information).
 pub(crate) const READ_STRING: u8 = 0;

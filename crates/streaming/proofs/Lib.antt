@@ -1,2 +1,7 @@
-pub mod Empty
 pub mod Requests
+pub mod Serving
+pub mod Empty
+pub mod OneEvent
+pub mod Lists
+pub mod Courses
+pub mod Looks

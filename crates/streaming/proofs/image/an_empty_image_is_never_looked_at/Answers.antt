@@ -1,5 +1,5 @@
 use Rattle.streaming.proofs.Empty.{sent_empty, course_empty, hands_empty}
-use Rattle.streaming.proofs.laws.an_empty_image_is_never_looked_at.Goals as goal
+use Rattle.streaming.proofs.image.an_empty_image_is_never_looked_at.Goals as goal
 
 pub returns-clause-sent : goal.returns-clause-sent
 returns-clause-sent c = sent_empty

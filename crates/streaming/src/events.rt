@@ -1,0 +1,81 @@
+//! Laws of one event of the network.
+
+ghost use Rattle.std.specs.Prelude.{◌≡◌, ℕ, List, [], remove, true, false, Option, Some, None};
+ghost use Rattle.aoe_net.specs.declared.way.Way.{Way};
+ghost use Rattle.aoe_net.specs.declared.way.Way.TheVariants.{ToClient};
+ghost use Rattle.aoe_net.specs.Wire.{Wire, going, queued, without};
+ghost use Rattle.image_server.specs.Serving.{IsReply};
+ghost use Rattle.plain_drive.specs.Physical.{Physical};
+ghost use Rattle.schedule_text.specs.declared.Event.TheVariants.{Deliver, Lose, Stray};
+ghost use Rattle.plain_run.specs.Entry.{Entry};
+ghost use Rattle.plain_run.specs.Run.{DriveEvent};
+ghost use Rattle.streaming.specs.Network.{NetworkEvent, handed_to_server, requests_in};
+ghost use Rattle.streaming.specs.Lists.{is_of_network};
+
+/// An event without a frame and without a request, a power cut among them, leaves the network as it is, and has no
+/// sector go into a reply.
+pub fn an_event_without_network_changes_nothing()
+    ensures network { (sectors : ℕ) (told : Option (List ℕ)) (old new : Wire) (entry : Entry)
+        (count : ℕ) → NetworkEvent sectors told old entry new count
+        → is_of_network entry.event ≡ false → requests_in entry.items ≡ [] → new ≡ old }
+    ensures count { (sectors : ℕ) (told : Option (List ℕ)) (old new : Wire) (entry : Entry)
+        (count : ℕ) → NetworkEvent sectors told old entry new count
+        → is_of_network entry.event ≡ false → count ≡ 0 }
+{}
+
+/// A frame that is lost leaves its list, and nothing comes of it.
+pub fn a_lost_frame_reaches_no_one()
+    ensures network { (sectors : ℕ) (told : Option (List ℕ)) (old new : Wire) (entry : Entry)
+        (count : ℕ) → NetworkEvent sectors told old entry new count
+        → (way : Way) (k : ℕ) → entry.event ≡ Lose way k → requests_in entry.items ≡ []
+        → new ≡ without way k old }
+    ensures count { (sectors : ℕ) (told : Option (List ℕ)) (old new : Wire) (entry : Entry)
+        (count : ℕ) → NetworkEvent sectors told old entry new count
+        → (way : Way) (k : ℕ) → entry.event ≡ Lose way k → count ≡ 0 }
+{}
+
+/// A frame that is delivered leaves its list, and one that is kept stays in it.
+pub fn a_delivered_frame_leaves_unless_it_is_kept()
+    ensures left { (sectors : ℕ) (told : Option (List ℕ)) (old new : Wire) (entry : Entry)
+        (count : ℕ) → NetworkEvent sectors told old entry new count
+        → (way : Way) (k : ℕ) → entry.event ≡ Deliver way k false → requests_in entry.items ≡ []
+        → going way new ≡ remove (going way old) k }
+    ensures kept { (sectors : ℕ) (told : Option (List ℕ)) (old new : Wire) (entry : Entry)
+        (count : ℕ) → NetworkEvent sectors told old entry new count
+        → (way : Way) (k : ℕ) → entry.event ≡ Deliver way k true → requests_in entry.items ≡ []
+        → going way new ≡ going way old }
+{}
+
+/// A stray frame joins no list: one for the client changes nothing of the network, and one for the server no request.
+pub fn a_stray_frame_joins_no_list()
+    ensures client { (sectors : ℕ) (told : Option (List ℕ)) (old new : Wire) (entry : Entry)
+        (count : ℕ) → NetworkEvent sectors told old entry new count
+        → (frame : List ℕ) → entry.event ≡ Stray ToClient frame → requests_in entry.items ≡ []
+        → new ≡ old }
+    ensures unserved { (sectors : ℕ) (told : Option (List ℕ)) (old new : Wire) (entry : Entry)
+        (count : ℕ) → NetworkEvent sectors told old entry new count
+        → (frame : List ℕ) → entry.event ≡ Stray ToClient frame → count ≡ 0 }
+    ensures server { (sectors : ℕ) (told : Option (List ℕ)) (old new : Wire) (entry : Entry)
+        (count : ℕ) → NetworkEvent sectors told old entry new count
+        → (way : Way) (frame : List ℕ) → entry.event ≡ Stray way frame
+        → requests_in entry.items ≡ [] → new.to_server ≡ old.to_server }
+{}
+
+/// The server's reply to the frame that it is handed is the newest of the replies, and where it is silent, they stay.
+pub fn the_servers_reply_joins_the_replies()
+    ensures replied { (sectors : ℕ) (image : List ℕ) (old new : Wire) (entry : Entry)
+        (count : ℕ) → NetworkEvent sectors (Some image) old entry new count
+        → (frame answer : List ℕ) → handed_to_server entry.event old ≡ Some frame
+        → IsReply sectors image frame (Some answer)
+        → new.to_client ≡ queued answer old.to_client }
+    ensures silent { (sectors : ℕ) (image : List ℕ) (old new : Wire) (entry : Entry)
+        (count : ℕ) → NetworkEvent sectors (Some image) old entry new count
+        → (frame : List ℕ) → handed_to_server entry.event old ≡ Some frame
+        → IsReply sectors image frame None → new.to_client ≡ old.to_client }
+{}
+
+/// A drive without a monitor has no request among its items, so nothing joins the requests.
+pub fn a_drive_alone_sends_no_request()
+    ensures { (old new : Physical) (entry : Entry) → DriveEvent old entry new
+        → requests_in entry.items ≡ [] }
+{}
