@@ -69,6 +69,13 @@ impl<S: Store> Drive<S> {
         self.words = 0;
     }
 
+    /// How many sectors the drive has.
+    pub fn sectors(&self) -> u64
+        ensures { result ≡ count_of self.now }
+    {
+        self.sectors.store.sectors()
+    }
+
     /// The registers.
     pub fn file(&self) -> &TaskFile
         ensures { result.now ≡ (device_of self.now).file }
