@@ -1,18 +1,18 @@
 -- The disk as it is read sector by sector, and out as it is written in pieces.
-use Rattle.std.proofs.Common.{◌≡◌, ◌≤◌, ◌<◌, ◌++◌, ℕ, List, [], ◌∷◌, length, take, drop, Option, Some, None, subst, sym, ap, ◌∙◌, ◌+◌, ◌*◌, append_assoc, append-nil, refl}
+use Rattle.std.proofs.Common.{◌≡◌, ◌≤◌, ◌<◌, ◌++◌, ℕ, List, [], ◌∷◌, length, take, drop, Option, Some, None, Result, Ok, Err, OnOk, subst, arith, sym, ap, ◌∙◌, suc, ◌+◌, ◌*◌, append_assoc, append-nil}
 use Rattle.std.specs.List.{concat}
 use Rattle.std.specs.Prelude.{slice_set, slice_index_or}
 use Rattle.std.proofs.lemmas.List.{take_all, take_more, take_more_set}
 use Rattle.std.proofs.lemmas.List.Folds.{concat-append}
+use Rattle.bm_host.specs.declared.Role.{Role}
 use Rattle.bm_host.specs.declared.Role.TheVariants.{Disk, Out}
-use Rattle.bm_host.specs.Outside.{Outside, IfTold, SameCounts, SameBytes, bytes_at}
-use Rattle.bm_host.proofs.OutsideLaws.{same_counts_trans}
+use Rattle.bm_host.specs.Outside.{Outside, Side, Becomes, Counted, IfTold, SameCounts, SameBytes, bytes_at}
+use Rattle.bm_host.proofs.OutsideLaws.{only_rose_after, same_counts_trans}
 use Rattle.plain_drive.specs.Physical.{Physical}
 use Rattle.plain_drive.specs.Plain.{sectors_in}
 use Rattle.plain_drive.proofs.Sectors.{sectors_in-more}
 use Rattle.block_writes.specs.Kept.{KeepsFilesBut, KeepsLooked}
 use Rattle.block_writes.specs.Waiting.{KeepsWaiting, Waits}
-use Rattle.block_writes.proofs.WaitingLaws.{Waits-none, Waits-all}
 
 -- so many sectors of the disk were read into a store, and nothing else happened
 pub record ReadsFront (old new : Outside) (size : ℕ) (list : List (List ℕ)) (sectors : ℕ) : Type 0 where
@@ -56,16 +56,42 @@ WritesFront-more old now new before mid after waiting more i below so counts fil
       (waits (text ++ concat (take i before.kept.durable)) (so.waits text was));
 }
 
--- nothing waits any more, and Out was empty: it holds all sectors
-pub WritesFront-all : (old now new : Outside) (before mid : Physical) (waiting rest : List ℕ) (i : ℕ)
-    → length before.kept.durable ≤ i
-    → WritesFront old now before mid waiting i → rest ≡ [] → KeepsWaiting Out waiting rest now new
-    → IfTold (old.told Out) (λ bytes. bytes ≡ []) → IfTold (new.told Out) (λ bytes. bytes ≡ concat before.kept.durable)
-WritesFront-all old now new before mid waiting rest i all so none waits empty =
-    let sectors : take i before.kept.durable ≡ before.kept.durable = take_all i before.kept.durable all in
-    let text = concat (take i before.kept.durable) in
-    subst (λ list. IfTold (new.told Out) (λ bytes. bytes ≡ concat list)) sectors
-    (Waits-all Out new rest text none (waits text (so.waits [] (Waits-none Out old [] refl empty))))
+-- what is told once more of this text, whatever was told before, has it behind what was told
+becomes_longer : (old new : Option (List ℕ)) (more rest : List ℕ) → rest ≡ []
+    → ((text : List ℕ) → IfTold old (λ written. written ++ [] ≡ text)
+    → IfTold new (λ written. written ++ rest ≡ text ++ more))
+    → Becomes (λ before after. after ≡ before ++ more) old new
+becomes_longer None None more rest none waits = tt
+becomes_longer (Some before) None more rest none waits = tt
+becomes_longer None (Some after) more rest none waits = absurd (no_two more (sym (waits [] tt) ∙ waits (0 ∷ []) tt))
+  where
+    no_two : (xs : List ℕ) → ¬ (xs ≡ 0 ∷ xs)
+    no_two xs e = let longer : length xs ≡ suc (length xs) = ap length e in absurd (omega (longer, arith))
+becomes_longer (Some before) (Some after) more rest none waits =
+    sym (append-nil after) ∙ ap (λ xs. after ++ xs) (sym none) ∙ waits before (append-nil before)
+
+-- nothing waits any more: Out holds all sectors behind what it held
+module _ (old now new : Outside) (before mid : Physical) (waiting rest : List ℕ) (i : ℕ)
+    (all : length before.kept.durable ≤ i) (so : WritesFront old now before mid waiting i) where
+  WritesFront-all : rest ≡ [] → KeepsWaiting Out waiting rest now new
+      → Becomes (λ before_run after. after ≡ before_run ++ concat before.kept.durable) (old.told Out) (new.told Out)
+  WritesFront-all none waits = becomes_longer (old.told Out) (new.told Out) (concat before.kept.durable) rest none
+      (λ text was. subst (λ list. Waits Out rest new (text ++ concat list)) (take_all i before.kept.durable all)
+      (waits (text ++ concat (take i before.kept.durable)) (so.waits text was)))
+
+  -- where the last write went well
+  pub WritesFront-done : {T E : Type 0} (result : Result T E) → OnOk result (rest ≡ [])
+      → OnOk result (KeepsWaiting Out waiting rest now new)
+      → OnOk result (Becomes (λ before_run after. after ≡ before_run ++ concat before.kept.durable)
+      (old.told Out) (new.told Out))
+  WritesFront-done (Ok x) none waits = WritesFront-all none waits
+  WritesFront-done (Err e) none waits = tt
+
+-- a call behind others that raised no count
+pub counted_after : {T E : Type 0} (side : Side) (role : Role) (a b c : Outside) (result : Result T E)
+    → SameCounts a b → Counted side role b c result → Counted side role a c result
+counted_after side role a b c (Ok x) = same_counts_trans a b c
+counted_after side role a b c (Err e) = only_rose_after side role a b c
 
 -- a sector that was read stands behind those before it
 sector_read : (list : List (List ℕ)) (disk bytes : List ℕ) (s : ℕ) → s < length list

@@ -1,3 +1,4 @@
 pub mod Machines
 pub mod EventLaws
 pub mod DiskLaws
+pub mod NetworkLaws

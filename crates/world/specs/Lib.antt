@@ -1,4 +1,5 @@
 -- What the clauses of `World` cite.
 pub mod Faults
--- Inner: what the drive and the guest's memory mean.
+-- Inner: what the drive and the guest's memory mean, and what an event does to the network.
 pub mod Machine
+pub mod Conveying

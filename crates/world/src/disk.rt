@@ -1,25 +1,23 @@
 //! The disk's sectors: read before the run, and written to Out after it.
 
-ghost use Rattle.std.specs.Prelude.{◌≡◌, ◌+◌, ◌*◌, ◌%◌, ◌/◌, ◌≤◌, ◌<◌, ◌^◌, ◌++◌, ℕ, List, All, [], take, length, IfErr, IfOk, OnOk, slice_index_or};
+ghost use Rattle.std.specs.Prelude.{◌≡◌, ◌+◌, ◌*◌, ◌≤◌, ◌<◌, ◌^◌, ◌++◌, ℕ, List, All, [], take, length, IfOk, OnOk, slice_index_or};
 ghost use Rattle.std.specs.List.{concat};
-ghost use Rattle.bm_host.specs.Outside.{IfTold, SameBytes};
+ghost use Rattle.bm_host.specs.Outside.{Becomes, Counted, IfTold, Reads, SameBytes, Writes};
 ghost use Rattle.bm_host.specs.declared.Role.TheVariants.{Disk, Out};
 ghost use Rattle.plain_drive.specs.Plain.{sectors_in};
-ghost use Rattle.world.specs.Lengths.{HasLength};
+ghost use Rattle.world.specs.Faults.{FailsAtStart};
 ghost use Rattle.world.specs.Machine.{list_of, physical};
 ghost use Rattle.streaming.specs.World.{drive_over};
-ghost use Rattle.world.specs.Stop.{IsCounted};
-ghost use Rattle.world.specs.Stages.{StopsAt, loading, writing_out};
 ghost use Rattle.block_writes.specs.Kept.{KeepsFilesBut, KeepsLooked};
 ghost use Rattle.block_writes.specs.Waiting.{Waits};
 
+use crate::fault::{HostFault, StartFault};
 use crate::machine::Machine;
-use crate::stop::Stop;
-use crate::waiting::{make_room, write_waiting};
 use arrayvec::ArrayVec;
 use ata_taskfile::registers::SECTOR_BYTES;
+use block_writes::{make_room, write_waiting};
 use bm_dma::{GuestMemory, MOST_BYTES};
-use bm_host::{Host, Role};
+use bm_host::{Failed, Host, Role};
 use drive_model::Drive;
 use drive_store::{MemoryStore, Store};
 use std::alloc::Global;
@@ -27,50 +25,51 @@ use std::alloc::Global;
 /// The bytes of the drive that are written in one call.
 const PIECE: usize = 65_536;
 
-/// Makes a drive of the disk's sectors, which is `size` bytes long, with a guest's memory of so many zeros.
+/// Makes a drive of the first so many sectors of the disk, with a guest's memory of so many zeros.
 pub(crate) fn load<H: Host>(
     alloc: Global,
     host: &mut H,
-    size: u64,
+    sectors: u64,
     memory: u32,
-) -> Result<Machine, Stop>
-    requires whole { size % SECTOR_BYTES ≡ 0 }
+) -> Result<Machine, StartFault>
+    requires few { SECTOR_BYTES * sectors < 2 ^ 64 }
     requires memory { memory ≤ MOST_BYTES }
-    requires told { HasLength Disk (H.outside host.old) size }
-    ensures stops { IfErr result (StopsAt loading) }
+    requires told { IfTold ((H.outside host.old).told Disk)
+        (λ bytes. SECTOR_BYTES * sectors ≤ length bytes) }
+    ensures fault { FailsAtStart result (H.outside host.old) (H.outside host.new) }
     ensures looked { KeepsLooked (H.outside host.old) (H.outside host.new) }
-    ensures counts { IsCounted result (H.outside host.old) (H.outside host.new) }
     ensures bytes { SameBytes (H.outside host.old) (H.outside host.new) }
     ensures began { IfOk result (λ machine.
         physical machine ≡ drive_over memory (physical machine).kept.durable) }
     ensures count { IfOk result (λ machine.
-        length (physical machine).kept.durable ≡ size / SECTOR_BYTES) }
+        length (physical machine).kept.durable ≡ sectors) }
     ensures sectors { IfOk result (λ machine.
         All (λ sector. length sector ≡ SECTOR_BYTES) (physical machine).kept.durable) }
     ensures disk { IfOk result (λ machine. IfTold ((H.outside host.old).told Disk)
-        (λ bytes. (physical machine).kept.durable ≡ sectors_of_disk bytes)) }
+        (λ bytes. (physical machine).kept.durable ≡ sectors_in sectors bytes)) }
 {
-    let Ok(mut store) = MemoryStore::new(alloc, size / SECTOR_BYTES as u64) else {
-        return Err(Stop::NoMemory);
+    let Ok(mut store) = MemoryStore::new(alloc, sectors) else {
+        return Err(StartFault::NoMemory);
     };
-    read_disk(host, &mut store)?;
+    let Ok(()) = read_disk(host, &mut store) else {
+        return Err(StartFault::Host(HostFault::Read(Role::Disk)));
+    };
     let Ok(memory) = GuestMemory::new(alloc, memory) else {
-        return Err(Stop::NoMemory);
+        return Err(StartFault::NoMemory);
     };
     let Ok(drive) = Drive::new(alloc, store) else {
-        return Err(Stop::NoMemory);
+        return Err(StartFault::NoMemory);
     };
     Ok(Machine { drive, memory })
 }
 
-// Reads all sectors of the disk.
-fn read_disk<H: Host>(host: &mut H, store: &mut MemoryStore) -> Result<(), Stop>
+// Reads all sectors of a store from the disk.
+fn read_disk<H: Host>(host: &mut H, store: &mut MemoryStore) -> Result<(), Failed>
     requires few { SECTOR_BYTES * length (list_of store.old) < 2 ^ 64 }
-    requires told { HasLength Disk (H.outside host.old)
-        (SECTOR_BYTES * length (list_of store.old)) }
-    ensures stops { IfErr result (StopsAt loading) }
+    requires told { IfTold ((H.outside host.old).told Disk)
+        (λ bytes. SECTOR_BYTES * length (list_of store.old) ≤ length bytes) }
+    ensures cause { Counted Reads Disk (H.outside host.old) (H.outside host.new) result }
     ensures looked { KeepsLooked (H.outside host.old) (H.outside host.new) }
-    ensures counts { IsCounted result (H.outside host.old) (H.outside host.new) }
     ensures bytes { SameBytes (H.outside host.old) (H.outside host.new) }
     ensures count { length (list_of store.new) ≡ length (list_of store.old) }
     ensures disk { OnOk result (IfTold ((H.outside host.old).told Disk)
@@ -82,15 +81,14 @@ fn read_disk<H: Host>(host: &mut H, store: &mut MemoryStore) -> Result<(), Stop>
     Ok(())
 }
 
-// Reads a sector of the disk.
-fn read_sector<H: Host>(host: &mut H, store: &mut MemoryStore, sector: u64) -> Result<(), Stop>
+// Reads a sector from the disk.
+fn read_sector<H: Host>(host: &mut H, store: &mut MemoryStore, sector: u64) -> Result<(), Failed>
     requires within { sector < length (list_of store.old) }
     requires few { SECTOR_BYTES * length (list_of store.old) < 2 ^ 64 }
-    requires told { HasLength Disk (H.outside host.old)
-        (SECTOR_BYTES * length (list_of store.old)) }
-    ensures stops { IfErr result (StopsAt loading) }
+    requires told { IfTold ((H.outside host.old).told Disk)
+        (λ bytes. SECTOR_BYTES * length (list_of store.old) ≤ length bytes) }
+    ensures cause { Counted Reads Disk (H.outside host.old) (H.outside host.new) result }
     ensures looked { KeepsLooked (H.outside host.old) (H.outside host.new) }
-    ensures counts { IsCounted result (H.outside host.old) (H.outside host.new) }
     ensures bytes { SameBytes (H.outside host.old) (H.outside host.new) }
     ensures count { length (list_of store.new) ≡ length (list_of store.old) }
     ensures disk { OnOk result (IfTold ((H.outside host.old).told Disk)
@@ -98,9 +96,7 @@ fn read_sector<H: Host>(host: &mut H, store: &mut MemoryStore, sector: u64) -> R
         → take (sector + 1) (list_of store.new) ≡ sectors_in (sector + 1) disk)) }
 {
     let mut bytes = [0; SECTOR_BYTES];
-    let Ok(()) = host.read_at(Role::Disk, sector * SECTOR_BYTES as u64, &mut bytes) else {
-        return Err(Stop::ReadFault(Role::Disk));
-    };
+    host.read_at(Role::Disk, sector * SECTOR_BYTES as u64, &mut bytes)?;
     // A store in memory has no fault.
     store.set(sector, &bytes).unwrap();
     Ok(())
@@ -109,28 +105,20 @@ fn read_sector<H: Host>(host: &mut H, store: &mut MemoryStore, sector: u64) -> R
 /// The bytes of the drive that wait to be written.
 type Piece = ArrayVec<u8, PIECE>;
 
-/// Writes to Out what a power cut at this moment leaves of the drive: the durable value of each sector, in order.
-pub(crate) fn write_out<H: Host>(
-    host: &mut H,
-    machine: &mut Machine,
-    sectors: u64,
-) -> Result<(), Stop>
-    requires empty { IfTold ((H.outside host.old).told Out) (λ bytes. bytes ≡ []) }
-    requires count { length (physical machine.old).kept.durable ≡ sectors }
-    ensures counts { IsCounted result (H.outside host.old) (H.outside host.new) }
-    ensures stops { IfErr result (StopsAt writing_out) }
+/// Appends to Out what a power cut at this moment leaves of the drive: the durable value of each sector, in order.
+pub(crate) fn write_out<H: Host>(host: &mut H, machine: &mut Machine) -> Result<(), Failed>
+    ensures cause { Counted Writes Out (H.outside host.old) (H.outside host.new) result }
     ensures looked { KeepsLooked (H.outside host.old) (H.outside host.new) }
     ensures files { KeepsFilesBut Out (H.outside host.old) (H.outside host.new) }
-    ensures machine { physical machine.new ≡ physical machine.old }
-    ensures out { OnOk result (IfTold ((H.outside host.new).told Out)
-        (λ bytes. bytes ≡ concat (physical machine.old).kept.durable)) }
+    ensures out { OnOk result (Becomes (λ before after.
+        after ≡ before ++ concat (physical machine.old).kept.durable)
+        ((H.outside host.old).told Out) ((H.outside host.new).told Out)) }
 {
     let mut piece = ArrayVec::new();
-    for sector in 0..sectors {
+    for sector in 0..machine.drive.sectors() {
         write_sector(host, machine, sector, &mut piece)?;
     }
-    write_waiting(host, Role::Out, &mut piece)?;
-    Ok(())
+    write_waiting(host, Role::Out, &mut piece)
 }
 
 // Appends a sector's durable value.
@@ -139,11 +127,10 @@ fn write_sector<H: Host>(
     machine: &mut Machine,
     sector: u64,
     piece: &mut Piece,
-) -> Result<(), Stop>
+) -> Result<(), Failed>
     requires { sector < length (physical machine.old).kept.durable }
-    ensures stops { IfErr result (StopsAt writing_out) }
+    ensures cause { Counted Writes Out (H.outside host.old) (H.outside host.new) result }
     ensures looked { KeepsLooked (H.outside host.old) (H.outside host.new) }
-    ensures counts { IsCounted result (H.outside host.old) (H.outside host.new) }
     ensures files { KeepsFilesBut Out (H.outside host.old) (H.outside host.new) }
     ensures machine { physical machine.new ≡ physical machine.old }
     ensures waits { OnOk result ((text : List ℕ)

@@ -1,16 +1,17 @@
 //! One event of the schedule, on the network.
 
-ghost use Rattle.std.specs.Prelude.{◌≡◌, ◌×◌, List, ℕ, IfErr, OnOk, Option};
+ghost use Rattle.std.specs.Prelude.{Some, OnErr, OnOk, slice_get, if◌then◌else◌};
 ghost use Rattle.bm_host.specs.declared.Role.TheVariants.{Image};
-ghost use Rattle.bm_host.specs.Outside.{SameBytes};
-ghost use Rattle.image_server.specs.Serving.{HasImage, HasSectors};
+ghost use Rattle.bm_host.specs.Outside.{Counted, Reads, SameBytes};
+ghost use Rattle.image_server.specs.Serving.{HasImage};
+ghost use Rattle.aoe_net.specs.Wire.{without};
+ghost use Rattle.aoe_net.specs.declared.way.Way.TheVariants.{ToServer};
 ghost use Rattle.streaming.specs.Network.{handed_to_server, taken_out};
-ghost use Rattle.world.specs.Faults.{FailsByHost};
+ghost use Rattle.world.specs.Conveying.{Conveys, NeedsSectors};
 
-use crate::fault::HostFault;
-use aoe_frame::Frame;
+use aoe_frame::{Frame, a_frame_has_a_reading};
 use aoe_net::{Net, Way};
-use bm_host::{Host, Role};
+use bm_host::{Failed, Host};
 use image_server::serve;
 use schedule_text::Event;
 
@@ -20,16 +21,16 @@ pub(crate) fn convey<H: Host>(
     net: &mut Net,
     sectors: u64,
     event: &Event,
-) -> Result<(), HostFault>
+) -> Result<(), Failed>
     requires image { HasImage sectors (H.outside host.old) }
-    ensures fault { FailsByHost result (H.outside host.old) (H.outside host.new) }
+    ensures network { OnOk result (Conveys sectors (H.outside host.old) (H.outside host.new)
+        (handed_to_server event.now net.old) (taken_out event.now net.old) net.new) }
+    ensures needed { OnErr result (NeedsSectors sectors (handed_to_server event.now net.old)) }
+    ensures cause { Counted Reads Image (H.outside host.old) (H.outside host.new) result }
     ensures bytes { SameBytes (H.outside host.old) (H.outside host.new) }
 {
     match event {
-        Event::Deliver(Way::ToServer, k, keep) => match net.pick(Way::ToServer, *k, *keep) {
-            Some(frame) => answer(host, net, sectors, &frame),
-            None => Ok(()),
-        },
+        Event::Deliver(Way::ToServer, k, keep) => deliver(host, net, sectors, *k, *keep),
         // There is no client: what is delivered to it is lost.
         Event::Deliver(Way::ToClient, k, keep) => {
             net.pick(Way::ToClient, *k, *keep);
@@ -44,23 +45,40 @@ pub(crate) fn convey<H: Host>(
     }
 }
 
-// The server's reply to a frame joins the replies.
-fn answer<H: Host>(
+// Request `k` is handed to the server.
+fn deliver<H: Host>(
     host: &mut H,
     net: &mut Net,
     sectors: u64,
-    frame: &Frame,
-) -> Result<(), HostFault>
+    k: u32,
+    keep: bool,
+) -> Result<(), Failed>
     requires image { HasImage sectors (H.outside host.old) }
-    ensures fault { FailsByHost result (H.outside host.old) (H.outside host.new) }
+    ensures network { OnOk result (Conveys sectors (H.outside host.old) (H.outside host.new)
+        (slice_get net.old.to_server k) (if keep then net.old else without ToServer k net.old)
+        net.new) }
+    ensures needed { OnErr result (NeedsSectors sectors (slice_get net.old.to_server k)) }
+    ensures cause { Counted Reads Image (H.outside host.old) (H.outside host.new) result }
     ensures bytes { SameBytes (H.outside host.old) (H.outside host.new) }
 {
-    match serve(host, sectors, frame) {
-        Ok(Some(reply)) => {
-            net.send(Way::ToClient, reply);
-            Ok(())
-        }
-        Ok(None) => Ok(()),
-        Err(_) => Err(HostFault::Read(Role::Image)),
+    match net.pick(Way::ToServer, k, keep) {
+        Some(frame) => answer(host, net, sectors, &frame),
+        None => Ok(()),
     }
+}
+
+// The server's reply to a frame joins the replies.
+fn answer<H: Host>(host: &mut H, net: &mut Net, sectors: u64, frame: &Frame) -> Result<(), Failed>
+    requires image { HasImage sectors (H.outside host.old) }
+    ensures network { OnOk result (Conveys sectors (H.outside host.old) (H.outside host.new)
+        (Some frame.now) net.old net.new) }
+    ensures needed { OnErr result (NeedsSectors sectors (Some frame.now)) }
+    ensures cause { Counted Reads Image (H.outside host.old) (H.outside host.new) result }
+    ensures bytes { SameBytes (H.outside host.old) (H.outside host.new) }
+{
+    a_frame_has_a_reading(frame);
+    if let Some(reply) = serve(host, sectors, frame)? {
+        net.send(Way::ToClient, reply);
+    }
+    Ok(())
 }

@@ -2,8 +2,6 @@
 
 ghost use Rattle.std.specs.Prelude.{◌≡◌, ◌≤◌, ◌*◌, ◌++◌, List, ℕ, [], All, length, IfErr, IfOk, OnErr, OnOk};
 ghost use Rattle.std.specs.List.{concat};
-ghost use Rattle.ata_taskfile.specs.declared.registers.TheConstants.{SECTOR_BYTES};
-ghost use Rattle.bm_dma.specs.declared.TheConstants.{MOST_BYTES};
 ghost use Rattle.bm_host.specs.declared.Role.TheVariants.{Disk, Image, Out};
 ghost use Rattle.bm_host.specs.Outside.{Becomes, IfTold, SameBytes};
 ghost use Rattle.block_writes.specs.Kept.{KeepsFilesBut, KeepsLooked};
@@ -22,7 +20,9 @@ use crate::fault::{HostFault, StartFault};
 use crate::machine::Machine;
 use crate::network::convey;
 use aoe_net::Net;
-use bm_host::Host;
+use ata_taskfile::registers::SECTOR_BYTES;
+use bm_dma::MOST_BYTES;
+use bm_host::{Host, Role};
 use monitor_state::Setup;
 use schedule_text::{Emitted, Event};
 use std::alloc::Global;
@@ -110,7 +110,9 @@ impl World {
         ensures fault { FailsByHost result (H.outside host.old) (H.outside host.new) }
         ensures files { SameBytes (H.outside host.old) (H.outside host.new) }
     {
-        convey(host, &mut self.net, self.image, event)?;
+        let Ok(()) = convey(host, &mut self.net, self.image, event) else {
+            return Err(HostFault::Read(Role::Image));
+        };
         apply(&mut self.machine, event, out);
         Ok(())
     }
@@ -131,7 +133,10 @@ impl World {
             net: _,
             image: _,
         } = self;
-        write_out(host, &mut machine)
+        let Ok(()) = write_out(host, &mut machine) else {
+            return Err(HostFault::Write(Role::Out));
+        };
+        Ok(())
     }
 
     /// Ends the world, and tells nothing of it.
