@@ -38,12 +38,10 @@ event_once : (sectors : ℕ) (image : List ℕ) (old one other : Wire) (entry : 
     → (one ≡ other) × (m ≡ n)
 event_once sectors image old one other entry m n event also =
     let same = served_once sectors image (handed_to_server entry.event old) event.answer also.answer m n
-    event.serves also.serves in (
-      event.after
-          ∙ ap (λ answer. requests_sent (requests_in entry.items) (reply_sent answer (taken_out entry.event old))) same.0
-          ∙ sym also.after,
-      same.1,
-    )
+    event.serves also.serves in
+    let sends : Option (List ℕ) → Wire = λ answer. requests_sent (requests_in entry.items)
+    (reply_sent answer (taken_out entry.event old)) in
+    (event.after ∙ ap sends same.0 ∙ sym also.after, same.1)
 
 pub course_once : (sectors : ℕ) (image : List ℕ) (entries : List Entry) (one other : Wire) (m n : ℕ)
     → IsCourse sectors (Some image) entries one m → IsCourse sectors (Some image) entries other n

@@ -48,7 +48,9 @@ course_empty told (entry ∷ earlier) wire count course =
     let before = course.0 in
     let more = course.2 in
     let none : course.1 ≡ 0 = course_empty told earlier before course.1 course.3 in
-    let served : more ≡ 0 = serves_empty told (handed_to_server entry.event before) course.4.answer more course.4.serves in
+    let event = course.4 in
+    let served : more ≡ 0 =
+    serves_empty told (handed_to_server entry.event before) event.answer more event.serves in
     course.5 ∙ rw (none, served) refl
 
 pub hands_empty : (one : Event) (scene : Scene) → scene.image ≡ 0 → ¬ HandsSectors one scene

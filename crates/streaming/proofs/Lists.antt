@@ -67,7 +67,8 @@ reply_fits (Some frame) wire fits = sent_fits ToClient frame wire fits
 
 requests_fit : (frames : List (List ℕ)) (wire : Wire) → FitsRings wire → FitsRings (requests_sent frames wire)
 requests_fit [] wire fits = fits
-requests_fit (frame ∷ frames) wire fits = requests_fit frames (sent ToServer frame wire) (sent_fits ToServer frame wire fits)
+requests_fit (frame ∷ frames) wire fits =
+    requests_fit frames (sent ToServer frame wire) (sent_fits ToServer frame wire fits)
 
 pub event_fits : (sectors : ℕ) (told : Option (List ℕ)) (old new : Wire) (entry : Entry) (count : ℕ)
     → NetworkEvent sectors told old entry new count → FitsRings old → FitsRings new

@@ -127,12 +127,14 @@ module _ {sectors : ℕ} {image : List ℕ} {old new : Wire} {entry : Entry} {co
       → IsReply sectors image frame (Some answer) → new.to_client ≡ queued answer old.to_client
   reply_joins frame answer handed replies =
       event_client one
-      ∙ ap (λ given. (reply_sent given (taken_out entry.event old)).to_client) (answer_is frame (Some answer) handed replies)
+      ∙ ap (λ given. (reply_sent given (taken_out entry.event old)).to_client)
+      (answer_is frame (Some answer) handed replies)
       ∙ ap (queued answer) (handed_client entry.event old frame handed)
 
   pub silence_stays : (frame : List ℕ) → handed_to_server entry.event old ≡ Some frame
       → IsReply sectors image frame None → new.to_client ≡ old.to_client
   silence_stays frame handed replies =
       event_client one
-      ∙ ap (λ given. (reply_sent given (taken_out entry.event old)).to_client) (answer_is frame None handed replies)
+      ∙ ap (λ given. (reply_sent given (taken_out entry.event old)).to_client)
+      (answer_is frame None handed replies)
       ∙ handed_client entry.event old frame handed
