@@ -32,6 +32,6 @@ pub use laws::{
 };
 pub use monitor_side::{MonitorSide, power_on};
 pub use reading::shows_rest;
-pub use removing::{Unclean, remove};
+pub use removing::{Unclean, is_clean, remove};
 pub use taking::{Busy, take};
 pub use view::View;

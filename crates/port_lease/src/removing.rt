@@ -77,7 +77,10 @@ fn restore<P: Ports>(view: &View, ports: &mut P)
     put_control(ports, view.file.control);
 }
 
-fn is_clean(view: &View, own: bool) -> bool
+/// Whether the view is clean: the guest would see nothing of the monitor's going, as far as the view and an own command
+/// that stands tell. Its Status is 50h and its Error 00h, nothing pends, start and its error bit are 0, and no own
+/// command stands (own).
+pub fn is_clean(view: &View, own: bool) -> bool
     ensures clean { result ≡ is_clean view.now own }
 {
     is_well(&view.file) && !view.file.pending && !view.bus.start && !view.bus.error && !own
