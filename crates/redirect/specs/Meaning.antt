@@ -18,11 +18,8 @@ use Rattle.own_pio.specs.Job.{IsFit}
 use Rattle.port_lease.specs.declared.view.View.{View}
 use Rattle.redirect.specs.declared.next.Next.{Next}
 use Rattle.redirect.specs.declared.next.Next.TheVariants.{Nothing, Ask, Read, Serve, Scatter, Raise, End}
+use Rattle.redirect.specs.Read.{sector_in}
 use Rattle.redirect.specs.Next.{end_of_read, has_sector}
-
--- the sector of a read that is due in a phase
-abbrev pub sector_due : Request → Phase → ℕ
-sector_due request phase = request.first + position_of phase
 
 -- a read waits at a sector: held by the bus master, for a walk; not held, for the block that was asked, or, on the
 -- disk, for an interrupt to be acknowledged (own)
@@ -55,8 +52,8 @@ pub record IsDue (request : Request) (phase : Phase) : Type 0 where
 pub record IsAsked (request : Request) (view : View) (area : Area) (filled : List Bool)
     (held : Option (ℕ × ℕ)) (waiting : Bool) (b : ℕ) : Type 0 where
   pub due : IsDue request view.file.phase
-  pub unheld : has_sector held (sector_due request view.file.phase) ≡ false
-  pub block : b ≡ block_at area (sector_due request view.file.phase)
+  pub unheld : has_sector held (sector_in view.file.phase) ≡ false
+  pub block : b ≡ block_at area (sector_in view.file.phase)
   pub below : b < blocks_of area
   pub empty : has filled b ≡ false
   pub once : waiting ≡ false
@@ -66,8 +63,8 @@ pub record IsAsked (request : Request) (view : View) (area : Area) (filled : Lis
 pub record IsReadable (request : Request) (view : View) (area : Area) (filled : List Bool)
     (held : Option (ℕ × ℕ)) (first count : ℕ) : Type 0 where
   pub due : IsDue request view.file.phase
-  pub unheld : has_sector held (sector_due request view.file.phase) ≡ false
-  pub from : first ≡ sector_due request view.file.phase
+  pub unheld : has_sector held (sector_in view.file.phase) ≡ false
+  pub from : first ≡ sector_in view.file.phase
   pub fit : IsFit (job.Read first count)
   pub one_block : first + count ≤ next_block area first
   pub within : first + count ≤ end_of_read request
@@ -75,10 +72,11 @@ pub record IsReadable (request : Request) (view : View) (area : Area) (filled : 
   pub quiet : view.file.pending ≡ false
 
 -- the sector that is due is held, and moves in this form
-pub record IsServed (form : Form) (request : Request) (view : View) (held : Option (ℕ × ℕ)) : Type 0 where
+pub record IsServed (form : Form) (request : Request) (view : View)
+    (held : Option (ℕ × ℕ)) : Type 0 where
   pub due : IsDue request view.file.phase
   pub form_is : request.form ≡ form
-  pub here : has_sector held (sector_due request view.file.phase) ≡ true
+  pub here : has_sector held (sector_in view.file.phase) ≡ true
 
 -- the bus master has moved all sectors of a read
 pub record IsMoved (request : Request) (phase : Phase) : Type 0 where

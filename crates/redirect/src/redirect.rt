@@ -17,11 +17,9 @@ pub struct Redirect {
 }
 
 impl Redirect {
-    ghost use Rattle.std.specs.Prelude.{◌≡◌, ℕ, ◌+◌, ◌<◌, ◌≤◌, ◌↔◌, true, false, IfSome};
-    ghost use Rattle.ata_taskfile.specs.Lawful.{position_of};
+    ghost use Rattle.std.specs.Prelude.{◌≡◌, ◌+◌, ◌≤◌, ◌↔◌, true, IfSome};
     ghost use Rattle.fill_bitmap.specs.Area.{IsSuitable, blocks_of};
     ghost use Rattle.fill_bitmap.specs.Bitmap.{blocks_in};
-    ghost use Rattle.fill_bitmap.specs.BlockSet.{has};
     ghost use Rattle.redirect.specs.Meaning.{Tells, waits};
     ghost use Rattle.redirect.specs.Next.{IsInHand, end_of_read, next_of, request_of};
 
@@ -47,7 +45,8 @@ impl Redirect {
         requires suitable { IsSuitable area.now }
         requires blocks { blocks_in bitmap.now ≡ blocks_of area.now }
         requires within { end_of_read (request_of self.now) ≤ area.now.sectors }
-        requires held { IfSome held (λ piece. piece.0 + piece.1 ≤ end_of_read (request_of self.now)) }
+        requires held { let end = end_of_read (request_of self.now) in
+            IfSome held (λ piece. piece.0 + piece.1 ≤ end) }
         requires in_hand { IsInHand (request_of self.now) view.now.file.phase }
 
         ensures next { result
