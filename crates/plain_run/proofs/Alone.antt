@@ -61,7 +61,8 @@ just_alone byte (Busy order zero) = one_alone _ (command_alone byte order)
 
 commands_alone : (old new : TaskFile) → Alone (commands_due old new)
 commands_alone old new =
-    either_alone (is_just_taken old.phase) [] (just_taken new.command new.phase) none_alone (just_alone new.command new.phase)
+    either_alone (is_just_taken old.phase) [] (just_taken new.command new.phase) none_alone
+    (just_alone new.command new.phase)
 
 due_alone : (one : Event) (old new : Physical) → Alone (items_due (drive_due one old new))
 due_alone one old new =

@@ -2,6 +2,7 @@ pub mod Entries
 pub mod Guest
 pub mod Told
 pub mod Alone
+pub mod Still
 pub mod Standing
 pub mod Kept
 pub mod Aims

@@ -23,6 +23,13 @@ abbrev pub is_cut : Event → Bool
 is_cut event.Cut = true
 is_cut one = false
 
+-- an event of the drive itself: a step, a destage or a power cut
+abbrev pub is_drives : Event → Bool
+is_drives (event.Drive s) = true
+is_drives (event.Destage k) = true
+is_drives event.Cut = true
+is_drives one = false
+
 -- a memory of zeros, as long as this one
 abbrev pub zeroed : List ℕ → List ℕ
 zeroed memory = replicate (length memory) 0

@@ -1,5 +1,5 @@
 -- What a guest does in an event: its accesses, and its own memory.
-use Rattle.std.specs.Prelude.{ℕ, ◌/◌, ◌%◌, List, [], ◌∷◌, length, map, replicate, Option, Some, None}
+use Rattle.std.specs.Prelude.{ℕ, Bool, true, false, ◌/◌, ◌%◌, List, [], ◌∷◌, length, map, replicate, Option, Some, None}
 use Rattle.std.specs.List.{flat_map, range_with_len}
 use Rattle.std.specs.Int.{w32, to_be_bytes}
 use Rattle.ata_taskfile.specs.declared.Access.{Access}
@@ -13,8 +13,8 @@ use Rattle.plain_drive.specs.Plain.{Plain, words_of}
 use Rattle.schedule_text.specs.declared.Event.{Event}
 use Rattle.schedule_text.specs.declared.Event.TheVariants as event
 
--- the accesses that an event makes, in order: a guest's reads and writes of registers, one for each
--- word of Data; none reaches its own memory, and no other event makes one
+-- the guest's accesses in an event, in order: its reads and writes of registers, one for each word of Data; none
+-- reaches its own memory, and no other event has one
 abbrev pub accesses_of : Event → List Access
 accesses_of (event.Read8 r) = access.Read8 r ∷ []
 accesses_of (event.Write8 r v) = access.Write8 r v ∷ []
@@ -24,6 +24,19 @@ accesses_of event.ReadPointer = access.ReadPointer ∷ []
 accesses_of (event.WritePointer v) = access.WritePointer v ∷ []
 accesses_of event.Line = access.Line ∷ []
 accesses_of other = []
+
+-- an event of the guest: an access to the drive, or to its own memory
+abbrev pub is_guests : Event → Bool
+is_guests (event.Read8 r) = true
+is_guests (event.Write8 r v) = true
+is_guests (event.ReadWords n) = true
+is_guests (event.WriteWords bytes) = true
+is_guests event.ReadPointer = true
+is_guests (event.WritePointer v) = true
+is_guests (event.ReadMemory address n) = true
+is_guests (event.WriteMemory address bytes) = true
+is_guests event.Line = true
+is_guests other = false
 
 -- the bytes that an access answers: a word has its low byte first, and the table pointer its most
 -- significant one, as the schedule writes it (own)

@@ -10,24 +10,33 @@
 
 #![tactic(auto)]
 
-ghost use Rattle.std.specs.Prelude.{◌≡◌, ◌↔◌, ℕ, List, [], All, length, slice_index_or, false};
+ghost use Rattle.std.specs.Prelude.{◌≡◌, ◌↔◌, ℕ, List, [], All, length, slice_index_or, true, false};
 ghost use Rattle.ata_taskfile.specs.declared.registers.TheConstants.{SECTOR_BYTES};
 ghost use Rattle.plain_drive.specs.Plain.{Plain};
 ghost use Rattle.plain_drive.specs.Physical.{Physical, StandsFor, fresh, physical_at_power_on, seen};
-ghost use Rattle.schedule_text.specs.declared.Event.TheVariants.{Remark};
 ghost use Rattle.schedule_text.specs.declared.Item.{Item};
 ghost use Rattle.plain_run.specs.Entry.{Entry, answer_items, answers_in, commands_in, is_monitors, plan_in};
-ghost use Rattle.plain_run.specs.Guest.{answer_due};
-ghost use Rattle.plain_run.specs.Event.{FollowsPlan, PlainEvent};
+ghost use Rattle.plain_run.specs.Guest.{answer_due, is_guests};
+ghost use Rattle.plain_run.specs.Event.{FollowsPlan, PlainEvent, is_cut, is_drives, may_step};
 ghost use Rattle.plain_run.specs.Plan.{IsPlanned};
 ghost use Rattle.plain_run.specs.Run.{DriveEvent, HasPlainRun, IsDriveRun, plan_due};
 ghost use Rattle.plain_run.specs.Taken.{commands_due};
 ghost use Rattle.plain_run.specs.Written.{is_named};
 
-/// A remark gets no answer and no plan line, and leaves the drive as it is.
-pub fn a_remark_changes_nothing()
-    ensures { (old new : Plain) (entry : Entry) → entry.event ≡ Remark
-        → PlainEvent old entry new → new ≡ old }
+/// An event that is neither the guest's nor a power cut, and has no plan, leaves the plain drive as it is: a destage,
+/// a tick, a remark, and whatever happens to a frame.
+pub fn other_events_change_nothing()
+    ensures unmoved { (old new : Plain) (entry : Entry) → PlainEvent old entry new
+        → is_guests entry.event ≡ false → is_cut entry.event ≡ false
+        → may_step entry.event ≡ false → new ≡ old }
+    ensures unanswered { (old new : Plain) (entry : Entry) → PlainEvent old entry new
+        → is_guests entry.event ≡ false → answers_in entry.items ≡ [] }
+{}
+
+/// A step of the drive and a turn of the monitor do to the plain drive what their plan says, and no more.
+pub fn a_step_or_turn_follows_its_plan()
+    ensures { (old new : Plain) (entry : Entry) → PlainEvent old entry new
+        → may_step entry.event ≡ true → FollowsPlan entry.items old new }
 {}
 
 /// What is due of a drive's event is told once each: its answer, its plan and its command are found among its items,
@@ -39,6 +48,15 @@ pub fn what_is_due_is_told_once()
         → plan_in entry.items ≡ plan_due entry.event (seen old) }
     ensures commands { (old new : Physical) (entry : Entry) → DriveEvent old entry new
         → commands_in entry.items ≡ commands_due old.file new.file }
+{}
+
+/// Without a monitor an event that is neither the guest's nor the drive's does nothing, and the report says nothing of
+/// it: a turn, a tick, a remark, and whatever happens to a frame.
+pub fn a_drive_alone_takes_no_other_event()
+    ensures unmoved { (old new : Physical) (entry : Entry) → DriveEvent old entry new
+        → is_guests entry.event ≡ false → is_drives entry.event ≡ false → new ≡ old }
+    ensures untold { (old new : Physical) (entry : Entry) → DriveEvent old entry new
+        → is_guests entry.event ≡ false → is_drives entry.event ≡ false → entry.items ≡ [] }
 {}
 
 /// A drive without a monitor has neither a request nor a mark among its items.
