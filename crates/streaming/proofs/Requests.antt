@@ -1,14 +1,17 @@
--- A drive without a monitor sends no request.
-use Rattle.std.proofs.Common.{◌≡◌, List, [], ◌∷◌, false, refl}
+-- Which frames an event's items send.
+use Rattle.std.proofs.Common.{ℕ, ◌≢◌, ◌++◌, ap, ◌∙◌, ◌≡◌, List, [], ◌∷◌, false, refl}
 use Rattle.std.specs.Prelude.{All}
 use Rattle.std.proofs.lemmas.List.Elements.{All-head, All-tail}
+use Rattle.aoe_net.specs.declared.way.Way.TheVariants.{ToServer}
+use Rattle.aoe_net.specs.Wire.{Wire, sent}
+use Rattle.aoe_client.specs.Messages.{request_frame}
 use Rattle.plain_drive.specs.Physical.{Physical}
 use Rattle.schedule_text.specs.declared.Item.{Item}
 use Rattle.schedule_text.specs.declared.Item.TheVariants as item
 use Rattle.plain_run.specs.Entry.{Entry, is_monitors}
 use Rattle.plain_run.specs.Run.{DriveEvent}
 use Rattle.plain_run.proofs.Alone.{event_alone}
-use Rattle.streaming.specs.Network.{requests_in}
+use Rattle.streaming.specs.Network.{requests_in, requests_sent}
 
 -- where no item is a monitor's, there is no request
 none_asked : (items : List Item) → All (λ one. is_monitors one ≡ false) items → requests_in items ≡ []
@@ -21,3 +24,33 @@ none_asked (other ∷ items) alone = none_asked items (All-tail (λ one. is_moni
 
 pub drive_asks_none : (old new : Physical) (entry : Entry) → DriveEvent old entry new → requests_in entry.items ≡ []
 drive_asks_none old new entry one = none_asked entry.items (event_alone old new entry one)
+
+-- an item more that asks is a request more, and any other is none
+asked_behind : (items : List Item) (tag : ℕ)
+    → requests_in (items ++ item.Asked tag ∷ []) ≡ requests_in items ++ request_frame tag ∷ []
+asked_behind [] tag = refl
+asked_behind (item.Asked first ∷ items) tag = ap (λ frames. request_frame first ∷ frames) (asked_behind items tag)
+asked_behind (other ∷ items) tag = asked_behind items tag
+
+sent_behind : (frames : List (List ℕ)) (frame : List ℕ) (wire : Wire)
+    → requests_sent (frames ++ frame ∷ []) wire ≡ sent ToServer frame (requests_sent frames wire)
+sent_behind [] frame wire = refl
+sent_behind (first ∷ frames) frame wire = sent_behind frames frame (sent ToServer first wire)
+
+pub asked_joins : (items : List Item) (tag : ℕ) (wire : Wire)
+    → requests_sent (requests_in (items ++ item.Asked tag ∷ [])) wire
+    ≡ sent ToServer (request_frame tag) (requests_sent (requests_in items) wire)
+asked_joins items tag wire =
+    ap (λ frames. requests_sent frames wire) (asked_behind items tag)
+    ∙ sent_behind (requests_in items) (request_frame tag) wire
+
+unasked : (one : Item) → ((tag : ℕ) → one ≢ item.Asked tag) → requests_in (one ∷ []) ≡ []
+unasked (item.Asked tag) other = absurd (other tag refl)
+unasked one other = refl
+
+pub others_join : (items : List Item) (one : Item) → ((tag : ℕ) → one ≢ item.Asked tag)
+    → requests_in (items ++ one ∷ []) ≡ requests_in items
+others_join [] one other = unasked one other
+others_join (item.Asked first ∷ items) one other =
+    ap (λ frames. request_frame first ∷ frames) (others_join items one other)
+others_join (more ∷ items) one other = others_join items one other

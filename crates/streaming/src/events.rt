@@ -1,15 +1,18 @@
 //! Laws of one event of the network.
 
-ghost use Rattle.std.specs.Prelude.{◌≡◌, ℕ, List, [], remove, true, false, Option, Some, None};
+ghost use Rattle.std.specs.Prelude.{◌≡◌, ◌≢◌, ◌++◌, ◌∷◌, ℕ, List, [], remove, true, false, Option, Some, None};
 ghost use Rattle.aoe_net.specs.declared.way.Way.{Way};
-ghost use Rattle.aoe_net.specs.declared.way.Way.TheVariants.{ToClient};
-ghost use Rattle.aoe_net.specs.Wire.{Wire, going, queued, without};
+ghost use Rattle.aoe_net.specs.declared.way.Way.TheVariants.{ToClient, ToServer};
+ghost use Rattle.aoe_net.specs.Wire.{Wire, going, queued, sent, without};
 ghost use Rattle.image_server.specs.Serving.{IsReply};
+ghost use Rattle.aoe_client.specs.Messages.{request_frame};
 ghost use Rattle.plain_drive.specs.Physical.{Physical};
 ghost use Rattle.schedule_text.specs.declared.Event.TheVariants.{Deliver, Lose, Stray};
+ghost use Rattle.schedule_text.specs.declared.Item.{Item};
+ghost use Rattle.schedule_text.specs.declared.Item.TheVariants.{Asked};
 ghost use Rattle.plain_run.specs.Entry.{Entry};
 ghost use Rattle.plain_run.specs.Run.{DriveEvent};
-ghost use Rattle.streaming.specs.Network.{NetworkEvent, handed_to_server, requests_in};
+ghost use Rattle.streaming.specs.Network.{NetworkEvent, handed_to_server, requests_in, requests_sent};
 ghost use Rattle.streaming.specs.Lists.{is_of_network};
 
 /// An event without a frame and without a request, a power cut among them, leaves the network as it is, and has no
@@ -59,6 +62,15 @@ pub fn a_stray_frame_joins_no_list()
         (count : ℕ) → NetworkEvent sectors told old entry new count
         → (way : Way) (frame : List ℕ) → entry.event ≡ Stray way frame
         → requests_in entry.items ≡ [] → new.to_server ≡ old.to_server }
+{}
+
+/// A request more among an event's items is the newest of the requests, and no other item sends a frame.
+pub fn each_request_joins_the_requests()
+    ensures asked { (items : List Item) (tag : ℕ) (wire : Wire)
+        → requests_sent (requests_in (items ++ Asked tag ∷ [])) wire
+        ≡ sent ToServer (request_frame tag) (requests_sent (requests_in items) wire) }
+    ensures others { (items : List Item) (one : Item) → ((tag : ℕ) → one ≢ Asked tag)
+        → requests_in (items ++ one ∷ []) ≡ requests_in items }
 {}
 
 /// The server's reply to the frame that it is handed is the newest of the replies, and where it is silent, they stay.

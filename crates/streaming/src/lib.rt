@@ -17,7 +17,8 @@ pub use course::{a_report_has_one_course, each_list_holds_its_own, no_list_outgr
 pub use events::{
     a_delivered_frame_leaves_unless_it_is_kept, a_drive_alone_sends_no_request,
     a_lost_frame_reaches_no_one, a_stray_frame_joins_no_list,
-    an_event_without_network_changes_nothing, the_servers_reply_joins_the_replies,
+    an_event_without_network_changes_nothing, each_request_joins_the_requests,
+    the_servers_reply_joins_the_replies,
 };
 pub use image::{
     a_reply_has_two_sectors_at_most, an_empty_image_is_never_looked_at,
