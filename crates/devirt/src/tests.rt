@@ -1,190 +1,110 @@
 //! Leaving, by hand from the table of docs/monitor.md.
 
 use crate::Exit::{CleanUp, Leave, Stay};
-use crate::leaving;
+use crate::{Exit, leaving};
 use ata_taskfile::registers::{DEV, HOB, NIEN};
 use ata_taskfile::{Bus, Phase, Refused, Taken, TaskFile};
 use port_lease::View;
 use std::test::Fail;
 
-const AT_REST: TaskFile = TaskFile {
-    count: [1, 0],
-    low: [0x56, 0x12],
-    mid: [0x34, 0],
-    high: [0x12, 0],
-    features: 2,
-    device: 0xe0,
-    control: 0,
-    error: 0,
-    command: 0x20,
-    failed: false,
-    pending: false,
-    phase: Phase::Idle,
-};
-
-const STOPPED: Bus = Bus {
-    start: false,
-    inward: false,
-    active: false,
-    error: false,
-    interrupt: false,
-    pointer: 0,
-    walk: None,
-};
-
-const CLEAN: View = View {
-    file: AT_REST,
-    bus: STOPPED,
-};
-
-// The clean view with other registers, and with another bus master.
-fn with_file(file: TaskFile) -> View {
-    View { file, ..CLEAN }
-}
-
-fn with_bus(bus: Bus) -> View {
-    View { bus, ..CLEAN }
-}
-
 const REFUSED: Taken = Taken::Bad(Refused::Abort);
 
+// Registers at rest, each byte 00h.
+fn at_rest() -> TaskFile {
+    TaskFile {
+        phase: Phase::Idle,
+        ..TaskFile::power_on()
+    }
+}
+
+// The view of these registers, whose bus master is as at power-on.
+fn with_file(file: TaskFile) -> View {
+    View {
+        file,
+        bus: Bus::power_on(),
+    }
+}
+
+// The exit from a view over a drive at Status 50h and Error 00h, with every block stored and no own command.
+fn exit_from(view: &View) -> Exit {
+    leaving(view, false, 0x50, 0x00, true)
+}
+
 #[test]
-fn views_that_may_be_left(rt: HostRuntime) -> Result<(), Fail> {
-    // What is other than in a clean view, over a drive at Status 50h and Error 00h with every block stored.
+fn views_by_their_registers(rt: HostRuntime) -> Result<(), Fail> {
+    // Device, Device Control and Error; whether the last command failed, and whether an interrupt pends; the exit.
     let cases = [
-        ("nothing", CLEAN, Leave),
-        (
-            "nIEN",
-            with_file(TaskFile {
-                control: NIEN,
-                ..AT_REST
-            }),
-            Leave,
-        ),
-        (
-            "HOB",
-            with_file(TaskFile {
-                control: HOB,
-                ..AT_REST
-            }),
-            Leave,
-        ),
-        (
-            "the direction",
-            with_bus(Bus {
-                inward: true,
-                ..STOPPED
-            }),
-            Leave,
-        ),
-        (
-            "the interrupt bit",
-            with_bus(Bus {
-                interrupt: true,
-                ..STOPPED
-            }),
-            Leave,
-        ),
-        (
-            "the pointer",
-            with_bus(Bus {
-                pointer: 0x1000,
-                ..STOPPED
-            }),
-            Leave,
-        ),
-        (
-            "in reset",
-            with_file(TaskFile {
-                phase: Phase::Reset,
-                ..AT_REST
-            }),
-            Stay,
-        ),
-        (
-            "a command",
-            with_file(TaskFile {
-                phase: Phase::Busy(REFUSED, 0),
-                ..AT_REST
-            }),
-            Stay,
-        ),
-        (
-            "words wait",
-            with_file(TaskFile {
-                phase: Phase::Ready(REFUSED, 0, 1),
-                ..AT_REST
-            }),
-            Stay,
-        ),
-        (
-            "Status 51h",
-            with_file(TaskFile {
-                failed: true,
-                ..AT_REST
-            }),
-            Stay,
-        ),
-        (
-            "Status 00h",
-            with_file(TaskFile {
-                device: 0xe0 | DEV,
-                ..AT_REST
-            }),
-            Stay,
-        ),
-        (
-            "Error 01h, as after a reset",
-            with_file(TaskFile {
-                error: 1,
-                ..AT_REST
-            }),
-            Stay,
-        ),
-        (
-            "Error 04h",
-            with_file(TaskFile {
-                error: 4,
-                ..AT_REST
-            }),
-            Stay,
-        ),
-        (
-            "an interrupt pends",
-            with_file(TaskFile {
-                pending: true,
-                ..AT_REST
-            }),
-            Stay,
-        ),
-        (
-            "start",
-            with_bus(Bus {
-                start: true,
-                active: true,
-                ..STOPPED
-            }),
-            Stay,
-        ),
-        (
-            "start, of a walk that ended",
-            with_bus(Bus {
-                start: true,
-                ..STOPPED
-            }),
-            Stay,
-        ),
-        (
-            "the error bit",
-            with_bus(Bus {
-                error: true,
-                ..STOPPED
-            }),
-            Stay,
-        ),
+        (0x00, 0, 0x00, false, false, Leave),
+        (0xe0, 0, 0x00, false, false, Leave),
+        (0x00, NIEN, 0x00, false, false, Leave),
+        (0x00, HOB, 0x00, false, false, Leave),
+        // DEV: Status reads 00h.
+        (DEV, 0, 0x00, false, false, Stay),
+        // As after a reset.
+        (0x00, 0, 0x01, false, false, Stay),
+        (0x00, 0, 0x04, false, false, Stay),
+        (0x00, 0, 0x00, true, false, Stay),
+        (0x00, 0, 0x04, true, false, Stay),
+        (0x00, 0, 0x00, false, true, Stay),
+        (0x00, NIEN, 0x00, false, true, Stay),
     ];
-    for (other, view, exit) in cases {
-        assert_eq!(rt; leaving(&view, false, 0x50, 0, true), exit, "{other}");
+    for (device, control, error, failed, pending, exit) in cases {
+        let view = with_file(TaskFile {
+            device,
+            control,
+            error,
+            failed,
+            pending,
+            ..at_rest()
+        });
+        assert_eq!(rt; exit_from(&view), exit, "{view:?}");
+    }
+    Ok(())
+}
+
+#[test]
+fn views_by_their_phase(rt: HostRuntime) -> Result<(), Fail> {
+    let cases = [
+        (Phase::Idle, Leave),
+        (Phase::Reset, Stay),
+        (Phase::Busy(REFUSED, 0), Stay),
+        (Phase::Ready(REFUSED, 0, 1), Stay),
+    ];
+    for (phase, exit) in cases {
+        let view = with_file(TaskFile { phase, ..at_rest() });
+        assert_eq!(rt; exit_from(&view), exit, "{phase:?}");
+    }
+    Ok(())
+}
+
+#[test]
+fn views_by_their_bus_master(rt: HostRuntime) -> Result<(), Fail> {
+    // Start, active, direction, error bit, interrupt bit, pointer; the exit.
+    let cases = [
+        (false, false, false, false, false, 0, Leave),
+        (false, false, true, false, false, 0, Leave),
+        (false, false, false, false, true, 0, Leave),
+        (false, false, false, false, false, 0x1000, Leave),
+        (true, true, false, false, false, 0x1000, Stay),
+        // A walk that ended at its table's end.
+        (true, false, false, false, false, 0x1000, Stay),
+        (false, false, false, true, false, 0, Stay),
+    ];
+    for (start, active, inward, error, interrupt, pointer, exit) in cases {
+        let bus = Bus {
+            start,
+            active,
+            inward,
+            error,
+            interrupt,
+            pointer,
+            walk: None,
+        };
+        let view = View {
+            file: at_rest(),
+            bus,
+        };
+        assert_eq!(rt; exit_from(&view), exit, "{bus:?}");
     }
     Ok(())
 }
@@ -204,22 +124,17 @@ fn drives_that_may_be_left(rt: HostRuntime) -> Result<(), Fail> {
         (0x80, 0x01, CleanUp),
         (0x00, 0x00, CleanUp),
     ];
-    let failed = with_file(TaskFile {
-        failed: true,
-        error: 4,
-        ..AT_REST
+    let clean = with_file(at_rest());
+    let pending = with_file(TaskFile {
+        pending: true,
+        ..at_rest()
     });
     for (status, error, exit) in cases {
-        assert_eq!(rt;
-            leaving(&CLEAN, false, status, error, true),
-            exit,
-            "{status:02x} {error:02x}"
-        );
-        assert_eq!(rt;
-            leaving(&failed, false, status, error, true),
-            Stay,
-            "{status:02x} {error:02x}"
-        );
+        let found = [
+            leaving(&clean, false, status, error, true),
+            leaving(&pending, false, status, error, true),
+        ];
+        assert_eq!(rt; found, [exit, Stay], "{status:02x} {error:02x}");
     }
     Ok(())
 }
@@ -234,10 +149,11 @@ fn own_commands_and_unstored_blocks(rt: HostRuntime) -> Result<(), Fail> {
         (true, true, [Stay, Stay]),
         (true, false, [Stay, Stay]),
     ];
+    let clean = with_file(at_rest());
     for (own, stored, exits) in cases {
         let found = [
-            leaving(&CLEAN, own, 0x50, 0, stored),
-            leaving(&CLEAN, own, 0x51, 0x40, stored),
+            leaving(&clean, own, 0x50, 0x00, stored),
+            leaving(&clean, own, 0x51, 0x40, stored),
         ];
         assert_eq!(rt; found, exits, "{own} {stored}");
     }

@@ -1,13 +1,11 @@
 -- The blocks that a search for an empty one has passed.
-use Rattle.std.proofs.Common.{◌≡◌, ℕ, ◌+◌, ◌-◌, ◌<◌, ◌≤◌, ◌⊎◌, Bool, true, false, not, if◌then◌else◌, nat_lt, position, Option, Some, None, IfSome, List, length, get_or, drop, arith, refl}
+use Rattle.std.proofs.Common.{◌≡◌, ℕ, ◌+◌, ◌-◌, ◌<◌, ◌≤◌, ◌⊎◌, Bool, true, false, not, position, Option, Some, None, IfSome, List, length, get_or, drop, arith, refl}
 use Rattle.std.specs.Option.{option_map, option_or}
-use Rattle.std.specs.List.{position_or_len}
 use Rattle.std.proofs.lemmas.Bool.{not-false}
-use Rattle.std.proofs.lemmas.Bool.Decides.{nat_tests}
 use Rattle.std.proofs.lemmas.List.{get_or-drop, length-drop}
 use Rattle.std.proofs.lemmas.List.Quantifiers.{position-Some}
-use Rattle.std.proofs.lemmas.List.Sums.{fails_before_first}
-use Rattle.fill_bitmap.specs.BlockSet.{has, first_outside, next_outside}
+use Rattle.fill_bitmap.specs.BlockSet.{IsWhole, has, first_outside, next_outside}
+use Rattle.fill_bitmap.proofs.Outside.{next_none}
 
 -- the blocks from `b` on that lie before `f`, or all of them where `f` lies below `b`, are held
 abbrev HasPassed : ℕ → List Bool → ℕ → Type 0
@@ -24,17 +22,11 @@ before_found b set i e k from inside way =
     let (within, passes, before) = position-Some not (drop b set) i false e in
     in_rest b k set from (not-false (get_or (drop b set) (k - b) false) (before (k - b) (omega arith)))
 
-no_place : (n m : ℕ) → (if nat_lt n m then Some n else None) ≡ None → m ≤ n
-no_place n m e = grind (arith, nat_tests)
-
 all_held : (b : ℕ) (set : List Bool) → position not (drop b set) ≡ None
     → (k : ℕ) → b ≤ k → k < length set → has set k ≡ true
 all_held b set e k from inside =
-    let rest : List Bool = drop b set in
-    let most = no_place (position_or_len not rest) (length rest) e in
-    let place : k - b < length rest = omega (arith, length-drop b set) in
-    in_rest b k set from (not-false (get_or rest (k - b) false)
-    (fails_before_first not rest (k - b) false (omega arith)))
+    let whole : IsWhole (drop b set) = (next_none 0 (drop b set)).0 (rw e refl) in
+    in_rest b k set from (whole (k - b) (omega (arith, length-drop b set)))
 
 either : (b : ℕ) (set : List Bool) (o : Option ℕ) → position not (drop b set) ≡ o → (p : Option ℕ)
     → IfSome (option_or (option_map (λ i. b + i) o) p) (HasPassed b set)
