@@ -6,11 +6,13 @@ ghost use Rattle.aoe_net.specs.declared.way.Way.TheVariants.{ToClient, ToServer}
 ghost use Rattle.aoe_net.specs.Wire.{Wire, going, queued, sent, without};
 ghost use Rattle.image_server.specs.Serving.{IsReply};
 ghost use Rattle.aoe_client.specs.Messages.{request_frame};
+ghost use Rattle.plain_drive.specs.Plain.{Plain};
 ghost use Rattle.plain_drive.specs.Physical.{Physical};
 ghost use Rattle.schedule_text.specs.declared.Event.TheVariants.{Deliver, Lose, Stray};
 ghost use Rattle.schedule_text.specs.declared.Item.{Item};
 ghost use Rattle.schedule_text.specs.declared.Item.TheVariants.{Asked};
 ghost use Rattle.plain_run.specs.Entry.{Entry};
+ghost use Rattle.plain_run.specs.Event.{PlainEvent};
 ghost use Rattle.plain_run.specs.Run.{DriveEvent};
 ghost use Rattle.streaming.specs.Network.{NetworkEvent, handed_to_server, requests_in, requests_sent};
 ghost use Rattle.streaming.specs.Lists.{is_of_network};
@@ -84,6 +86,17 @@ pub fn the_servers_reply_joins_the_replies()
         (count : ℕ) → NetworkEvent sectors (Some image) old entry new count
         → (frame : List ℕ) → handed_to_server entry.event old ≡ Some frame
         → IsReply sectors image frame None → new.to_client ≡ old.to_client }
+{}
+
+/// An event of the network leaves the plain drive as it is, and so it does a drive without a monitor, whose report
+/// says nothing of it.
+pub fn a_frame_moves_no_drive()
+    ensures plain { (old new : Plain) (entry : Entry) → PlainEvent old entry new
+        → is_of_network entry.event ≡ true → new ≡ old }
+    ensures physical { (old new : Physical) (entry : Entry) → DriveEvent old entry new
+        → is_of_network entry.event ≡ true → new ≡ old }
+    ensures untold { (old new : Physical) (entry : Entry) → DriveEvent old entry new
+        → is_of_network entry.event ≡ true → entry.items ≡ [] }
 {}
 
 /// A drive without a monitor has no request among its items, so nothing joins the requests.

@@ -16,7 +16,7 @@ mod image;
 pub use course::{a_report_has_one_course, each_list_holds_its_own, no_list_outgrows_its_room};
 pub use events::{
     a_delivered_frame_leaves_unless_it_is_kept, a_drive_alone_sends_no_request,
-    a_lost_frame_reaches_no_one, a_stray_frame_joins_no_list,
+    a_frame_moves_no_drive, a_lost_frame_reaches_no_one, a_stray_frame_joins_no_list,
     an_event_without_network_changes_nothing, each_request_joins_the_requests,
     the_servers_reply_joins_the_replies,
 };
