@@ -1,6 +1,6 @@
 //! Sectors of a piece that move by tables in the guest's memory, as docs/drive.md has it.
 
-ghost use Rattle.std.specs.Prelude.{◌≡◌, IfOk};
+ghost use Rattle.std.specs.Prelude.{◌≡◌};
 ghost use Rattle.ata_taskfile.specs.declared.Form.TheVariants.{DmaIn};
 ghost use Rattle.ata_taskfile.specs.declared.Phase.TheVariants.{Busy};
 ghost use Rattle.ata_taskfile.specs.declared.Taken.TheVariants.{Good};
