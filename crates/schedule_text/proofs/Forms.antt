@@ -1,5 +1,5 @@
 -- What no line says: the texts that are no event's, each by its first words.
-use Rattle.std.proofs.Common.{ℕ, ◌≡◌, ◌≢◌, ◌<◌, ◌≤◌, ◌+◌, ◌%◌, ◌^◌, ◌++◌, ◌==◌, if◌then◌else◌, Bool, true, false, List, ◌∷◌, length, codes, decimal, get_or, ap, sym, ◌∙◌, subst, refl, arith, Err, inl, inr}
+use Rattle.std.proofs.Common.{ℕ, ◌≡◌, ◌≢◌, ◌<◌, ◌≤◌, ◌+◌, ◌%◌, ◌^◌, ◌++◌, ◌==◌, Bool, List, ◌∷◌, length, codes, decimal, get_or, ap, sym, ◌∙◌, subst, refl, arith, Err, inl, inr}
 use Rattle.std.specs.Bool.{MatchBool}
 use Rattle.std.specs.Str.Parse.{digits_value}
 use Rattle.std.proofs.lemmas.List.{append_cancel_left}

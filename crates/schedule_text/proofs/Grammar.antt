@@ -133,9 +133,6 @@ told_said line (event.WriteMemory a bytes) (range, is) = ap told is ∙
     (told_long-hex_long a (32 ∷ hex_text bytes) range.0) ∙
     ap (event.WriteMemory a) (told_bytes-hex_text bytes range.1.0)
 told_said line event.Line (range, is) = ap told is
-told_said line (event.Drive step.Good) (range, is) = ap told is
-told_said line (event.Drive step.Bad) (range, is) = ap told is
-told_said line (event.Destage k) (range, is) = ap told is ∙ ap event.Destage (decimal_told k (omega arith)).1
 told_said line (event.Deliver way k keep) (range, is) =
     let number = decimal_told k (omega arith) in
     ap told is ∙ told_delivered way (decimal k) keep number.0 ∙
@@ -144,6 +141,9 @@ told_said line (event.Lose way k) (range, is) =
     ap told is ∙ told_lost way (decimal k) ∙ ap (event.Lose way) (decimal_told k (omega arith)).1
 told_said line (event.Stray way frame) (range, is) =
     ap told is ∙ told_stray way (hex_text frame) ∙ ap (event.Stray way) (told_bytes-hex_text frame range.0)
+told_said line (event.Drive step.Good) (range, is) = ap told is
+told_said line (event.Drive step.Bad) (range, is) = ap told is
+told_said line (event.Destage k) (range, is) = ap told is ∙ ap event.Destage (decimal_told k (omega arith)).1
 told_said line event.Turn (range, is) = ap told is
 told_said line event.Tick (range, is) = ap told is
 told_said line event.Cut (range, is) = ap told is
@@ -197,16 +197,16 @@ says_short line (event.ReadMemory a n) (range, is) = omega (
 )
 says_short line (event.WriteMemory a bytes) (range, is) = omega (arith, ap length is, length-hex_text bytes)
 says_short line event.Line (range, is) = omega (arith, ap length is)
-says_short line (event.Drive step.Good) (range, is) = omega (arith, ap length is)
-says_short line (event.Drive step.Bad) (range, is) = omega (arith, ap length is)
-says_short line (event.Destage k) (range, is) =
-    omega (arith, ap length is, length-decimal-le 2 k (omega arith) (omega arith) (omega arith))
 says_short line (event.Deliver way k keep) (range, is) = subst (λ z. length z ≤ LINE_BYTES) (sym is)
     (delivered_short way (decimal k) keep (length-decimal-le 2 k (omega arith) (omega arith) (omega arith)))
 says_short line (event.Lose way k) (range, is) = subst (λ z. length z ≤ LINE_BYTES) (sym is)
     (lost_short way (decimal k) (length-decimal-le 2 k (omega arith) (omega arith) (omega arith)))
 says_short line (event.Stray way frame) (range, is) = subst (λ z. length z ≤ LINE_BYTES) (sym is)
     (stray_short way frame range.2)
+says_short line (event.Drive step.Good) (range, is) = omega (arith, ap length is)
+says_short line (event.Drive step.Bad) (range, is) = omega (arith, ap length is)
+says_short line (event.Destage k) (range, is) =
+    omega (arith, ap length is, length-decimal-le 2 k (omega arith) (omega arith) (omega arith))
 says_short line event.Turn (range, is) = omega (arith, ap length is)
 says_short line event.Tick (range, is) = omega (arith, ap length is)
 says_short line event.Cut (range, is) = omega (arith, ap length is)

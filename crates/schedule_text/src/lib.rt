@@ -64,8 +64,8 @@ pub enum Event {
     WriteMemory(u32, Bytes<ANSWER_BYTES>),
     /// The guest looks at the interrupt line.
     Line,
-    /// The frame at a place of one way, 0 to `LAST_PLACE`, the oldest first, is delivered; where the flag is set, it stays
-    /// in its list, and else it leaves it.
+    /// The frame at a place of one way, 0 to `LAST_PLACE`, the oldest first, is delivered; where the flag is set, it
+    /// stays in its list, and else it leaves it.
     Deliver(Way, u32, bool),
     /// The frame at a place of one way is lost: 0 to `LAST_PLACE`, the oldest first.
     Lose(Way, u32),

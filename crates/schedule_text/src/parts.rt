@@ -8,7 +8,7 @@ ghost use Rattle.schedule_text.specs.Line.{register_text, hex_digit, hex_byte, h
 ghost use Rattle.schedule_text.specs.Line.{value_of, keep_text, AreBytes, AreSomeBytes, ReadsNumber};
 ghost use Rattle.decimal_text.specs.Decimal.{IsDecimal};
 
-use crate::LineFault;
+use crate::{LAST_PLACE, LineFault};
 use aoe_frame::{Bytes, Frame, MOST_BYTES};
 use ata_taskfile::Reg;
 use decimal_text::{is_decimal, value};
@@ -186,6 +186,13 @@ pub(crate) fn digits_and_keep(text: &[u8]) -> (&[u8], bool)
         Some(digits) => (digits, true),
         None => (text, false),
     }
+}
+
+// A place in the drive's cache, or in a list of frames.
+pub(crate) fn place(digits: &[u8]) -> Result<u32, LineFault>
+    ensures number { ReadsNumber 0 LAST_PLACE digits.now result }
+{
+    number(digits, 0, LAST_PLACE)
 }
 
 // A decimal number that may be from `low` to `high`.

@@ -7,9 +7,10 @@ ghost use Rattle.schedule_text.specs.Line.{way_text, stray_text, hex_long};
 ghost use Rattle.schedule_text.specs.Line.{Says, ReadsInto, HasFault, IsOutOfRange, IsFormless};
 
 use crate::parts::{
-    address_and_rest, bytes, digits_and_keep, frame, long, number, register, register_and_byte,
+    address_and_rest, bytes, digits_and_keep, frame, long, number, place, register,
+    register_and_byte,
 };
-use crate::{EVENT_BYTES, EVENT_WORDS, Event, LAST_PLACE, LINE_BYTES, LineFault};
+use crate::{EVENT_BYTES, EVENT_WORDS, Event, LINE_BYTES, LineFault};
 use aoe_net::Way;
 use ata_taskfile::Step;
 
@@ -219,7 +220,7 @@ fn read_destage(digits: &[u8], event: &mut Event) -> Result<(), LineFault>
     requires { 6 + length digits.now ≤ LINE_BYTES }
     ensures reads { ReadsInto (codes "d put " ++ digits.now) event.new result }
 {
-    match number(digits, 0, LAST_PLACE) {
+    match place(digits) {
         Ok(place) => *event = Event::Destage(place),
         Err(fault) => return Err(fault),
     }
@@ -231,7 +232,7 @@ fn read_deliver(way: Way, rest: &[u8], event: &mut Event) -> Result<(), LineFaul
     ensures reads { ReadsInto (codes "n " ++ way_text way ++ 32 ∷ rest.now) event.new result }
 {
     let (digits, keep) = digits_and_keep(rest);
-    match number(digits, 0, LAST_PLACE) {
+    match place(digits) {
         Ok(place) => *event = Event::Deliver(way, place, keep),
         Err(fault) => return Err(fault),
     }
@@ -242,7 +243,7 @@ fn read_lose(way: Way, digits: &[u8], event: &mut Event) -> Result<(), LineFault
     requires { 5 + length digits.now ≤ LINE_BYTES }
     ensures reads { ReadsInto (codes "n l" ++ way_text way ++ 32 ∷ digits.now) event.new result }
 {
-    match number(digits, 0, LAST_PLACE) {
+    match place(digits) {
         Ok(place) => *event = Event::Lose(way, place),
         Err(fault) => return Err(fault),
     }

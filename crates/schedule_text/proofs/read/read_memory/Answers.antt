@@ -1,4 +1,4 @@
-use Rattle.std.proofs.Common.{arith, ◌++◌, ◌∷◌, codes, subst, sym}
+use Rattle.std.proofs.Common.{arith, ◌++◌, codes, subst, sym}
 use Rattle.schedule_text.specs.Line.{ReadsInto}
 use Rattle.schedule_text.proofs.Forms.{no_memory}
 use Rattle.schedule_text.proofs.read.read_memory.Goals as goal
