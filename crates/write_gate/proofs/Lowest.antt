@@ -135,6 +135,11 @@ pass_exactly area filled first count =
     by_found area (first_in_empty area filled first count) (touches_empty area filled first count)
     (find_any (is_empty_at area filled) (range_with_len first count))
 
+-- a range that touches no empty block has a gate that passes
+pub untouched_passes : (area : Area) (filled : List Bool) (first count : ℕ)
+    → touches_empty area filled first count ≡ false → Pass ≡ gated_at area (first_in_empty area filled first count)
+untouched_passes area filled first count untouched = sym ((pass_exactly area filled first count).1 untouched)
+
 -- a block that ends above a sector is none below the sector's
 touched_from : (block first k : ℕ) → 0 < block → first < (k + 1) * block → first / block ≤ k
 touched_from block first k some begins = grind arith
