@@ -10,7 +10,7 @@ use Rattle.schedule_text.specs.declared.Event.{Event}
 use Rattle.schedule_text.specs.declared.Event.TheVariants as event
 use Rattle.schedule_text.specs.declared.Item.{Item}
 use Rattle.schedule_text.specs.declared.Item.TheVariants as item
-use Rattle.plain_run.specs.Entry.{Entry, answer_items, answers_in, plan_in}
+use Rattle.plain_run.specs.Entry.{Entry, answer_items, answers_in, entry_of, plan_in}
 use Rattle.plain_run.specs.Guest.{after_guest, answer_due, is_guests}
 use Rattle.plain_run.specs.Event.{FollowsPlan, LeadsTo, PlainEvent, is_cut, is_drives, may_step}
 use Rattle.plain_run.specs.Run.{DriveEvent, physical_event, plan_due}
@@ -41,6 +41,10 @@ pub still_unmoved : (old new : Plain) (entry : Entry) → PlainEvent old entry n
 still_unmoved old new entry one other uncut unstepped =
     unplanned entry.items one.between new (one.placed unstepped) one.followed
     ∙ still_reached entry.event old one.between other uncut one.reached
+
+pub still_tick : (old new : Plain) (entry : Entry) → PlainEvent old entry new → entry.event ≡ event.Tick → new ≡ old
+still_tick old new entry one is =
+    still_unmoved old new entry one (ap is_guests is) (ap is_cut is) (ap may_step is)
 
 pub still_unanswered : (old new : Plain) (entry : Entry) → PlainEvent old entry new → is_guests entry.event ≡ false
     → answers_in entry.items ≡ []
@@ -90,3 +94,15 @@ pub stepped_follows : (old new : Plain) (entry : Entry) → PlainEvent old entry
 stepped_follows old new entry one steps =
     subst (λ start. FollowsPlan entry.items start new) (stepped_reached entry.event old one.between steps one.reached)
     one.followed
+
+-- and a turn may have any plan that the drive can follow
+pub turn_planned : (items : List Item) (old new : Plain) → answers_in items ≡ [] → FollowsPlan items old new
+    → PlainEvent old (entry_of event.Turn items []) new
+turn_planned items old new unanswered follows = record {
+  answered = unanswered;
+  bytes = refl;
+  between = old;
+  reached = refl;
+  placed = λ still. cc;
+  followed = follows;
+}

@@ -14,8 +14,9 @@ ghost use Rattle.std.specs.Prelude.{◌≡◌, ◌↔◌, ℕ, List, [], All, le
 ghost use Rattle.ata_taskfile.specs.declared.registers.TheConstants.{SECTOR_BYTES};
 ghost use Rattle.plain_drive.specs.Plain.{Plain};
 ghost use Rattle.plain_drive.specs.Physical.{Physical, StandsFor, fresh, physical_at_power_on, seen};
+ghost use Rattle.schedule_text.specs.declared.Event.TheVariants.{Tick, Turn};
 ghost use Rattle.schedule_text.specs.declared.Item.{Item};
-ghost use Rattle.plain_run.specs.Entry.{Entry, answer_items, answers_in, commands_in, is_monitors, plan_in};
+ghost use Rattle.plain_run.specs.Entry.{Entry, answer_items, answers_in, commands_in, entry_of, is_monitors, plan_in};
 ghost use Rattle.plain_run.specs.Guest.{answer_due, is_guests};
 ghost use Rattle.plain_run.specs.Event.{FollowsPlan, PlainEvent, is_cut, is_drives, may_step};
 ghost use Rattle.plain_run.specs.Plan.{IsPlanned};
@@ -29,14 +30,19 @@ pub fn other_events_change_nothing()
     ensures unmoved { (old new : Plain) (entry : Entry) → PlainEvent old entry new
         → is_guests entry.event ≡ false → is_cut entry.event ≡ false
         → may_step entry.event ≡ false → new ≡ old }
+    ensures tick { (old new : Plain) (entry : Entry) → PlainEvent old entry new
+        → entry.event ≡ Tick → new ≡ old }
     ensures unanswered { (old new : Plain) (entry : Entry) → PlainEvent old entry new
         → is_guests entry.event ≡ false → answers_in entry.items ≡ [] }
 {}
 
-/// A step of the drive and a turn of the monitor do to the plain drive what their plan says, and no more.
+/// A step of the drive and a turn of the monitor do to the plain drive what their plan says, and no more; a turn may
+/// have any plan that the drive can follow.
 pub fn a_step_or_turn_follows_its_plan()
-    ensures { (old new : Plain) (entry : Entry) → PlainEvent old entry new
+    ensures followed { (old new : Plain) (entry : Entry) → PlainEvent old entry new
         → may_step entry.event ≡ true → FollowsPlan entry.items old new }
+    ensures turn { (items : List Item) (old new : Plain) → answers_in items ≡ []
+        → FollowsPlan items old new → PlainEvent old (entry_of Turn items []) new }
 {}
 
 /// What is due of a drive's event is told once each: its answer, its plan and its command are found among its items,
