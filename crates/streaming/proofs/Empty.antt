@@ -37,7 +37,7 @@ sent_empty (Err NotAoe) = refl
 sent_empty (Err (Version h)) = refl
 
 -- nor into the reply to what the server is handed
-serves_empty : (told handed answer : Option (List ℕ)) (count : ℕ) → Serves 0 told handed answer count → count ≡ 0
+pub serves_empty : (told handed answer : Option (List ℕ)) (count : ℕ) → Serves 0 told handed answer count → count ≡ 0
 serves_empty told None answer count served = served.1
 serves_empty told (Some frame) answer count served = served.counts ∙ sent_empty served.reading
 
