@@ -1,9 +1,8 @@
 -- The events that were read and done, one after the other.
-use Rattle.std.proofs.Common.{◌≡◌, ◌≢◌, ◌+◌, ◌≤◌, ◌++◌, ℕ, List, [], ◌∷◌, length, sym, ◌∙◌, ap, subst, arith}
-use Rattle.bm_host.specs.declared.Role.TheVariants.{Schedule}
+use Rattle.std.proofs.Common.{◌≡◌, ◌≢◌, ◌+◌, ◌≤◌, ◌++◌, ℕ, List, [], ◌∷◌, length, refl, sym, ◌∙◌, ap, subst, arith}
+use Rattle.bm_host.specs.declared.Role.TheVariants.{Image, Schedule}
 use Rattle.bm_host.specs.Outside.{Outside, IfTold, SameCounts}
 use Rattle.bm_host.proofs.OutsideLaws.{same_counts_trans}
-use Rattle.plain_drive.specs.Physical.{Physical}
 use Rattle.schedule_text.specs.declared.Event.{Event}
 use Rattle.schedule_text.specs.declared.Item.{Item}
 use Rattle.schedule_text.specs.declared.LineFault.{LineFault}
@@ -13,56 +12,79 @@ use Rattle.schedule_text.specs.Line.{Says}
 use Rattle.schedule_text.specs.Schedule.{HasNoEnd, HasRead}
 use Rattle.schedule_text.specs.BadLine.{LineFails, FailsAt}
 use Rattle.plain_run.specs.Entry.{Entry, entry_of, events_of, history_text, items_text}
-use Rattle.plain_run.specs.Run.{DriveEvent}
+use Rattle.image_server.specs.Serving.{LooksAtMost}
+use Rattle.streaming.specs.Network.{IsCourse}
+use Rattle.streaming.specs.World.{Scene, WorldEvent}
+use Rattle.block_writes.specs.Kept.{KeepsLooked}
 use Rattle.plain_run.proofs.Entries.{events_length}
 use Rattle.bmcast.specs.declared.play.Progress.{Progress}
 use Rattle.bmcast.specs.declared.play.Progress.TheVariants as progress
 use Rattle.bmcast.specs.declared.streams.Streams.{Streams}
-use Rattle.bmcast.specs.Kept.{KeepsFiles, KeepsLooked}
+use Rattle.bmcast.specs.Kept.{KeepsFiles}
 use Rattle.bmcast.specs.Streams.{unread, Said, KeepsSaid, Reports}
-use Rattle.bmcast.specs.Played.{HasPlayed, HasTaken, HasDone, HasDoneEnd, HasEnded, IsNextLine, IsPlayed, Leads, HasFailed}
+use Rattle.bmcast.specs.Played.{Begun, HasPlayed, HasTaken, HasDone, HasDoneEnd, HasEnded, IsNextLine, IsPlayed, Leads, HasFailed}
 use Rattle.block_writes.proofs.Told.{IfTold-both, IfTold-weaker, IfTold-same}
 use Rattle.bmcast.proofs.Lines.{read_next, fails_next}
 
+-- what was looked at so far, when no more is
+pub looks_on : (n : ℕ) (a b c : Outside) → KeepsLooked b c → LooksAtMost n a b → LooksAtMost n a c
+looks_on n a b c kept so = record {
+  most = rw kept so.most;
+  none = λ e. kept ∙ so.none e;
+}
+
+-- one look after the other
+looks_after : (m n : ℕ) (a b c : Outside) → LooksAtMost m a b → LooksAtMost n b c → LooksAtMost (m + n) a c
+looks_after m n a b c so more = record {
+  most = let first = so.most in let then = more.most in omega arith;
+  none = λ e. more.none (omega arith) ∙ so.none (omega arith);
+}
+
 -- what was reported stays reported, when nothing else was
-still_played : (start : Physical) (from to : Streams) (old new : Outside) (now : Physical) (entries : List Entry)
-    → KeepsSaid from to old new → IsPlayed start from old now entries → IsPlayed start to new now entries
-still_played start from to old new now entries said was =
-    record { run = was.run; said = said (history_text entries) was.said }
+still_played : (start : Begun) (from to : Streams) (old new : Outside) (now : Scene) (entries : List Entry)
+    → KeepsFiles old new → KeepsLooked old new → KeepsSaid from to old new
+    → IsPlayed start from old now entries → IsPlayed start to new now entries
+still_played start from to old new now entries files looked said was = record {
+  run = was.run;
+  count = was.count;
+  course = subst (λ told. IsCourse now.image told entries now.wire was.count) (sym (files Image (λ e. cc))) was.course;
+  looked = looks_on was.count start.outside old new looked was.looked;
+  said = said (history_text entries) was.said;
+}
 
 -- the next line was taken
-pub line_taken : (start : Physical) (from to : Streams) (old new : Outside) (now : Physical) (line : List ℕ)
+pub line_taken : (start : Begun) (from to : Streams) (old new : Outside) (now : Scene) (line : List ℕ)
     (number : ℕ)
-    → new.told Schedule ≡ old.told Schedule → KeepsSaid from to old new
+    → KeepsFiles old new → KeepsLooked old new → KeepsSaid from to old new
     → IfTold (old.told Schedule) (λ text. (events : List Event) → HasRead text (unread from old text) events
     → IsNextLine text (unread to new text) events line)
     → HasPlayed start from old now number → HasTaken start to new now line number
-line_taken start from to old new now line number same said taken was = record {
+line_taken start from to old new now line number files looked said taken was = record {
   entries = was.entries;
-  played = still_played start from to old new now was.entries said was.played;
+  played = still_played start from to old new now was.entries files looked said was.played;
   unended = was.unended;
-  taken = IfTold-same _ (sym same)
+  taken = IfTold-same _ (sym (files Schedule (λ e. cc)))
       (IfTold-both (old.told Schedule) _ _ _ (λ text one read. one (events_of was.entries) read) taken was.read);
   next = was.next;
 }
 
 -- there is no next line: what was played before has failed there
-pub none_taken : (start : Physical) (from to : Streams) (old new : Outside) (now : Physical) (number : ℕ)
+pub none_taken : (start : Begun) (from to : Streams) (old new : Outside) (now : Scene) (number : ℕ)
     (kind : LineFault)
-    → new.told Schedule ≡ old.told Schedule → KeepsSaid from to old new
+    → KeepsFiles old new → KeepsLooked old new → KeepsSaid from to old new
     → IfTold (old.told Schedule) (λ text. (events : List Event) → HasNoEnd events → length events + 1 ≡ number
     → HasRead text (unread from old text) events → FailsAt text events number kind)
     → HasPlayed start from old now number → HasFailed start to new now number kind
-none_taken start from to old new now number kind same said fails was = record {
+none_taken start from to old new now number kind files looked said fails was = record {
   entries = was.entries;
-  played = still_played start from to old new now was.entries said was.played;
-  fails = IfTold-same _ (sym same)
+  played = still_played start from to old new now was.entries files looked said was.played;
+  fails = IfTold-same _ (sym (files Schedule (λ e. cc)))
       (IfTold-both (old.told Schedule) _ _ _ (λ text step read. step (events_of was.entries) was.unended
       (ap (λ k. k + 1) (events_length was.entries) ∙ was.next) read) fails was.read);
 }
 
 -- the line that was taken fails
-pub taken_failed : (start : Physical) (s : Streams) (o : Outside) (now : Physical) (line : List ℕ)
+pub taken_failed : (start : Begun) (s : Streams) (o : Outside) (now : Scene) (line : List ℕ)
     (number bad : ℕ) (kind : LineFault)
     → number ≤ LAST_LINE → bad ≡ number → LineFails kind number line → HasTaken start s o now line number
     → HasFailed start s o now bad kind
@@ -77,21 +99,33 @@ taken_failed start s o now line number bad kind within is fails was = record {
 }
 
 -- it says an event, which was done and reported
-module _ (start : Physical) (from to : Streams) (old new : Outside) (before after : Physical) (line : List ℕ)
+module _ (start : Begun) (from to : Streams) (old new : Outside) (before after : Scene) (line : List ℕ)
     (number : ℕ)
-    (e : Event) (items : List Item) (bytes : List ℕ) (says : Says line e) (same : new.told Schedule ≡ old.told Schedule)
-    (event : DriveEvent before (entry_of e items bytes) after)
+    (e : Event) (items : List Item) (bytes : List ℕ) (says : Says line e) (files : KeepsFiles old new)
+    (event : WorldEvent old new before (entry_of e items bytes) after)
     (told : Reports from to old new (items_text number items bytes))
     (was : HasTaken start from old before line number) where
+  course_done : IsCourse after.image (new.told Image) (entry_of e items bytes ∷ was.entries) after.wire
+      (was.played.count + event.count)
+  course_done =
+      subst (λ n. IsCourse n (new.told Image) (entry_of e items bytes ∷ was.entries) after.wire
+      (was.played.count + event.count)) (sym event.image)
+      (subst (λ told. IsCourse before.image told (entry_of e items bytes ∷ was.entries) after.wire
+      (was.played.count + event.count)) (sym (files Image (λ e. cc)))
+      (before.wire, was.played.count, event.count, was.played.course, event.network, refl))
+
   event_done : IsPlayed start to new after (entry_of e items bytes ∷ was.entries)
   event_done = record {
-    run = (before, was.played.run, event);
+    run = (before.drive, was.played.run, event.drive);
+    count = was.played.count + event.count;
+    course = course_done;
+    looked = looks_after was.played.count event.count start.outside old new was.played.looked event.looked;
     said = subst (λ k. Said to new (history_text was.entries ++ items_text k items bytes)) (sym was.next)
         (told.0 (history_text was.entries) was.played.said);
   }
 
   read_done : IfTold (new.told Schedule) (λ text. HasRead text (unread to new text) (e ∷ events_of was.entries))
-  read_done = IfTold-same _ (sym same)
+  read_done = IfTold-same _ (sym (files Schedule (λ e. cc)))
       (IfTold-weaker (old.told Schedule) _ _
       (λ text taken. subst (λ left. HasRead text left (e ∷ events_of was.entries)) (sym (told.1 text))
       (read_next text line (unread from old text) e (events_of was.entries) says taken))
@@ -114,14 +148,14 @@ module _ (start : Physical) (from to : Streams) (old new : Outside) (before afte
   }
 
 -- the line `end` was done, and nothing is left behind it
-pub played_out : (start : Physical) (s to : Streams) (o new : Outside) (now : Physical) (number : ℕ)
-    → new.told Schedule ≡ o.told Schedule
+pub played_out : (start : Begun) (s to : Streams) (o new : Outside) (now : Scene) (number : ℕ)
+    → KeepsFiles o new → KeepsLooked o new
     → IfTold (o.told Schedule) (λ text. unread s o text ≡ []) → KeepsSaid s to o new
     → HasDoneEnd start s o now number → HasEnded start to new now number
-played_out start s to o new now number same nothing said done = record {
+played_out start s to o new now number files looked nothing said done = record {
   entries = done.entries;
-  played = still_played start s to o new now done.entries said done.played;
-  schedule = IfTold-same _ (sym same)
+  played = still_played start s to o new now done.entries files looked said done.played;
+  schedule = IfTold-same _ (sym (files Schedule (λ e. cc)))
       (IfTold-both (o.told Schedule) _ _ _
       (λ text read end. (done.ended, subst (λ left. HasRead text left (events_of done.entries)) end read))
       done.read nothing);
@@ -129,16 +163,16 @@ played_out start s to o new now number same nothing said done = record {
 }
 
 -- something follows it
-pub failed_behind : (start : Physical) (s to : Streams) (o new : Outside) (now : Physical) (number bad : ℕ)
+pub failed_behind : (start : Begun) (s to : Streams) (o new : Outside) (now : Scene) (number bad : ℕ)
     (kind : LineFault)
-    → new.told Schedule ≡ o.told Schedule → KeepsSaid s to o new
+    → KeepsFiles o new → KeepsLooked o new → KeepsSaid s to o new
     → bad ≡ number + 1 → kind ≡ fault.Trailing → IfTold (o.told Schedule) (λ text. unread s o text ≢ [])
     → HasDoneEnd start s o now number → HasFailed start to new now bad kind
-failed_behind start s to o new now number bad kind same said is trailing some done = record {
+failed_behind start s to o new now number bad kind files looked said is trailing some done = record {
   entries = done.entries;
-  played = still_played start s to o new now done.entries said done.played;
+  played = still_played start s to o new now done.entries files looked said done.played;
   fails = subst (λ k. IfTold (new.told Schedule) (λ text. FailsAt text (events_of done.entries) bad k)) (sym trailing)
-      (IfTold-same _ (sym same)
+      (IfTold-same _ (sym (files Schedule (λ e. cc)))
       (IfTold-both (o.told Schedule) _ _ _ (λ text read left. record {
         left = unread s o text;
         read = read;
@@ -148,33 +182,35 @@ failed_behind start s to o new now number bad kind same said is trailing some do
 }
 
 -- the report is written, and nothing else happens
-pub failed_on : (start : Physical) (s to : Streams) (o new : Outside) (now : Physical) (number : ℕ) (kind : LineFault)
-    → new.told Schedule ≡ o.told Schedule → KeepsSaid s to o new
+pub failed_on : (start : Begun) (s to : Streams) (o new : Outside) (now : Scene) (number : ℕ) (kind : LineFault)
+    → KeepsFiles o new → KeepsLooked o new → KeepsSaid s to o new
     → HasFailed start s o now number kind → HasFailed start to new now number kind
-failed_on start s to o new now number kind same said failed = record {
+failed_on start s to o new now number kind files looked said failed = record {
   entries = failed.entries;
-  played = still_played start s to o new now failed.entries said failed.played;
-  fails = IfTold-same _ (sym same) failed.fails;
+  played = still_played start s to o new now failed.entries files looked said failed.played;
+  fails = IfTold-same _ (sym (files Schedule (λ e. cc))) failed.fails;
 }
 
--- so far in the loop over lines: no count rose, no file but the report changed, and the lines before this number were
--- played
-pub record PlaysOn (from to : Streams) (old new : Outside) (before after : Physical) (number : ℕ) : Type 0 where
+-- so far in the loop over lines: no count rose, no file but the report changed, nothing of the image was looked at, its
+-- count of sectors stays, and the lines before this number were played
+pub record PlaysOn (from to : Streams) (old new : Outside) (before after : Scene) (number : ℕ) : Type 0 where
   pub counts : SameCounts old new
   pub files : KeepsFiles old new
   pub looked : KeepsLooked old new
-  pub played : (start : Physical) → HasPlayed start from old before 1 → HasPlayed start to new after number
+  pub image : after.image ≡ before.image
+  pub played : (start : Begun) → HasPlayed start from old before 1 → HasPlayed start to new after number
   pub within : number ≤ LAST_LINE
 
-pub PlaysOn-more : (from mid to : Streams) (old now new : Outside) (before between after : Physical) (number : ℕ)
+pub PlaysOn-more : (from mid to : Streams) (old now new : Outside) (before between after : Scene) (number : ℕ)
     → PlaysOn from mid old now before between number → SameCounts now new → KeepsFiles now new
-    → KeepsLooked now new
-    → ((start : Physical) → HasPlayed start mid now between number → HasPlayed start to new after (number + 1))
+    → KeepsLooked now new → after.image ≡ between.image
+    → ((start : Begun) → HasPlayed start mid now between number → HasPlayed start to new after (number + 1))
     → number ≢ LAST_LINE → PlaysOn from to old new before after (number + 1)
-PlaysOn-more from mid to old now new before between after number on counts files looked more other = record {
+PlaysOn-more from mid to old now new before between after number on counts files looked image more other = record {
   counts = same_counts_trans old now new on.counts counts;
   looked = looked ∙ on.looked;
   files = λ role other. files role other ∙ on.files role other;
+  image = image ∙ on.image;
   played = λ start was. more start (on.played start was);
   within = let w = on.within in omega arith;
 }

@@ -7,7 +7,8 @@ use Rattle.schedule_text.specs.Schedule.{IsOneLine}
 use Rattle.schedule_text.proofs.Lines.{IsOneLine-push, IsOneLine-more}
 use Rattle.bmcast.specs.declared.streams.Streams.{Streams}
 use Rattle.block_writes.proofs.Told.{IfTold-weaker, IfTold-both, IfTold-same}
-use Rattle.bmcast.specs.Kept.{KeepsFiles, KeepsLooked}
+use Rattle.block_writes.specs.Kept.{KeepsLooked}
+use Rattle.bmcast.specs.Kept.{KeepsFiles}
 use Rattle.bmcast.specs.Streams.{unread, Takes, TakesBytes, KeepsSaid}
 
 -- these bytes were taken, the front of a line, and nothing else happened

@@ -8,7 +8,8 @@ use Rattle.schedule_text.specs.Report.{line_text}
 use Rattle.plain_run.specs.Entry.{items_text}
 use Rattle.plain_run.proofs.Entries.{items_text-push}
 use Rattle.bmcast.specs.declared.streams.Streams.{Streams}
-use Rattle.bmcast.specs.Kept.{KeepsFiles, KeepsLooked}
+use Rattle.block_writes.specs.Kept.{KeepsLooked}
+use Rattle.bmcast.specs.Kept.{KeepsFiles}
 use Rattle.bmcast.specs.Streams.{Said, Reports}
 
 -- these lines were appended, and nothing else happened

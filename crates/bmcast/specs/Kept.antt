@@ -3,10 +3,7 @@ use Rattle.std.specs.Prelude.{◌≡◌, ◌≢◌}
 use Rattle.bm_host.specs.declared.Role.{Role}
 use Rattle.bm_host.specs.declared.Role.TheVariants.{Report, Console}
 use Rattle.bm_host.specs.Outside.{Outside}
-
--- no byte of Image was looked at
-abbrev pub KeepsLooked : Outside → Outside → Type 0
-KeepsLooked old new = new.looked ≡ old.looked
+use Rattle.block_writes.specs.Kept.{KeepsFilesBut}
 
 -- Console holds what it held
 abbrev pub SameConsole : Outside → Outside → Type 0
@@ -15,10 +12,6 @@ SameConsole old new = new.told Console ≡ old.told Console
 -- no role holds anything else
 abbrev pub KeepsAllFiles : Outside → Outside → Type 0
 KeepsAllFiles old new = (role : Role) → new.told role ≡ old.told role
-
--- no role but this one holds anything else
-abbrev pub KeepsFilesBut : Role → Outside → Outside → Type 0
-KeepsFilesBut written old new = (role : Role) → role ≢ written → new.told role ≡ old.told role
 
 -- no more was given of any role but this one than before
 abbrev pub KeepsGivenBut : Role → Outside → Outside → Type 0

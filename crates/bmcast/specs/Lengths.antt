@@ -1,8 +1,11 @@
 -- What image and disk must be like, and why they are refused.
-use Rattle.std.specs.Prelude.{ℕ, ◌≡◌, ◌<◌, Some, None, length}
+use Rattle.std.specs.Prelude.{ℕ, ◌≡◌, ◌<◌, ◌*◌, Some, None, length}
 use Rattle.bm_host.specs.declared.Role.{Role}
 use Rattle.bm_host.specs.declared.Role.TheVariants.{Image, Disk}
 use Rattle.bm_host.specs.Outside.{Outside, IfTold}
+use Rattle.ata_taskfile.specs.declared.registers.TheConstants.{SECTOR_BYTES}
+use Rattle.fill_bitmap.specs.declared.area.Area.{Area}
+use Rattle.fill_bitmap.specs.Area.{IsSuitable}
 use Rattle.fill_bitmap.specs.Lengths.{refusal_of}
 use Rattle.fill_bitmap.specs.declared.lengths.Unsuitable.TheVariants as unsuitable
 use Rattle.bmcast.specs.declared.Why.{Why}
@@ -41,3 +44,9 @@ IsUnsuitable why.TooSmall block image disk = refusal_of image disk block ≡ Som
 IsUnsuitable why.TooLarge block image disk = refusal_of image disk block ≡ Some unsuitable.TooLarge
 IsUnsuitable why.AlreadyBegun block image disk = ⊥
 IsUnsuitable why.NotBegun block image disk = ⊥
+
+-- a suitable area that has as many sectors as disk and image, each where it is told
+pub record IsAreaOf (area : Area) (o : Outside) : Type 0 where
+  pub suitable : IsSuitable area
+  pub disk : HasLength Disk o (SECTOR_BYTES * area.sectors)
+  pub image : HasLength Image o (SECTOR_BYTES * area.image)

@@ -7,6 +7,7 @@ pub mod Lengths
 pub mod Files
 pub mod Owed
 -- Inner: what its steps owe one another, which no clause of it cites.
+pub mod SetUp
 pub mod Stages
 pub mod Stop
 pub mod Kept

@@ -1,8 +1,7 @@
 -- Inner: the events that were read and done so far, and a schedule that was played.
 use Rattle.std.specs.Prelude.{ℕ, ◌≡◌, ◌≢◌, ◌+◌, ◌⊎◌, List, length}
-use Rattle.bm_host.specs.declared.Role.TheVariants.{Schedule, Report}
+use Rattle.bm_host.specs.declared.Role.TheVariants.{Image, Schedule, Report}
 use Rattle.bm_host.specs.Outside.{Outside, IfTold}
-use Rattle.plain_drive.specs.Physical.{Physical}
 use Rattle.schedule_text.specs.declared.Event.{Event}
 use Rattle.schedule_text.specs.declared.Event.TheVariants as event
 use Rattle.schedule_text.specs.declared.TheConstants.{LAST_LINE}
@@ -11,20 +10,32 @@ use Rattle.schedule_text.specs.Schedule.{HasNoEnd, HasRead, IsEnded, IsSchedule}
 use Rattle.schedule_text.specs.BadLine.{FailsAt}
 use Rattle.plain_run.specs.Entry.{Entry, events_of, history_text, report_text}
 use Rattle.plain_run.specs.Run.{IsDriveRun}
+use Rattle.image_server.specs.Serving.{LooksAtMost}
+use Rattle.streaming.specs.Network.{IsCourse}
+use Rattle.streaming.specs.World.{Scene}
 use Rattle.bmcast.specs.declared.play.Progress.{Progress}
 use Rattle.bmcast.specs.declared.play.Progress.TheVariants as progress
 use Rattle.bmcast.specs.declared.streams.Streams.{Streams}
 use Rattle.bmcast.specs.declared.streams.Fetched.TheVariants as fetched
 use Rattle.bmcast.specs.Streams.{unread, Fetches, Said}
 
--- these entries were done and reported, and led from the start to now
-pub record IsPlayed (start : Physical) (s : Streams) (o : Outside) (now : Physical)
+-- where a run began: what the world was then, and its outside
+pub record Begun : Type 0 where
+  pub scene : Scene
+  pub outside : Outside
+
+-- these entries were done and reported, and led from the start to now; so many sectors of the image went into replies,
+-- and no more of it was looked at
+pub record IsPlayed (start : Begun) (s : Streams) (o : Outside) (now : Scene)
     (entries : List Entry) : Type 0 where
-  pub run : IsDriveRun start entries now
+  pub run : IsDriveRun start.scene.drive entries now.drive
+  pub count : ℕ
+  pub course : IsCourse now.image (o.told Image) entries now.wire count
+  pub looked : LooksAtMost count start.outside o
   pub said : Said s o (history_text entries)
 
 -- the events of the lines before this number were read, done and reported; `end` isn't among them
-pub record HasPlayed (start : Physical) (s : Streams) (o : Outside) (now : Physical)
+pub record HasPlayed (start : Begun) (s : Streams) (o : Outside) (now : Scene)
     (number : ℕ) : Type 0 where
   pub entries : List Entry
   pub played : IsPlayed start s o now entries
@@ -38,7 +49,7 @@ IsNextLine text left events line = (old : List ℕ) × HasRead text old events
     × (Fetches fetched.Line line old left ⊎ Fetches fetched.LastLine line old left)
 
 -- the events of the lines before this number were read and done, and its line was taken; `end` isn't among them
-pub record HasTaken (start : Physical) (s : Streams) (o : Outside) (now : Physical) (line : List ℕ)
+pub record HasTaken (start : Begun) (s : Streams) (o : Outside) (now : Scene) (line : List ℕ)
     (number : ℕ) : Type 0 where
   pub entries : List Entry
   pub played : IsPlayed start s o now entries
@@ -53,7 +64,7 @@ Leads progress.More one number = (one ≢ event.End) × (number ≢ LAST_LINE)
 Leads progress.Ended one number = one ≡ event.End
 
 -- the line `end`, which has this number, was read, done and reported
-pub record HasDoneEnd (start : Physical) (s : Streams) (o : Outside) (now : Physical)
+pub record HasDoneEnd (start : Begun) (s : Streams) (o : Outside) (now : Scene)
     (number : ℕ) : Type 0 where
   pub entries : List Entry
   pub played : IsPlayed start s o now entries
@@ -62,12 +73,12 @@ pub record HasDoneEnd (start : Physical) (s : Streams) (o : Outside) (now : Phys
   pub length : length entries ≡ number
 
 -- the line of this number was done: the next one is due, or it was `end`
-abbrev pub HasDone : Progress → Physical → Streams → Outside → Physical → ℕ → Type 0
+abbrev pub HasDone : Progress → Begun → Streams → Outside → Scene → ℕ → Type 0
 HasDone progress.More start s o now number = HasPlayed start s o now (number + 1)
 HasDone progress.Ended start s o now number = HasDoneEnd start s o now number
 
 -- a whole schedule was read and done, and `end` is its line of this number
-pub record HasEnded (start : Physical) (s : Streams) (o : Outside) (now : Physical)
+pub record HasEnded (start : Begun) (s : Streams) (o : Outside) (now : Scene)
     (number : ℕ) : Type 0 where
   pub entries : List Entry
   pub played : IsPlayed start s o now entries
@@ -75,28 +86,33 @@ pub record HasEnded (start : Physical) (s : Streams) (o : Outside) (now : Physic
   pub length : length entries ≡ number
 
 -- the events before the first bad line were read, done and reported
-pub record HasFailed (start : Physical) (s : Streams) (o : Outside) (now : Physical) (number : ℕ)
+pub record HasFailed (start : Begun) (s : Streams) (o : Outside) (now : Scene) (number : ℕ)
     (kind : LineFault) : Type 0 where
   pub entries : List Entry
   pub played : IsPlayed start s o now entries
   pub fails : IfTold (o.told Schedule) (λ text. FailsAt text (events_of entries) number kind)
 
 -- after a line of this number the schedule goes on, or it has ended
-abbrev pub Progresses : Progress → Physical → Streams → Outside → Physical → ℕ → Type 0
+abbrev pub Progresses : Progress → Begun → Streams → Outside → Scene → ℕ → Type 0
 Progresses progress.More start s o now number = HasPlayed start s o now (number + 1)
 Progresses progress.Ended start s o now number = HasEnded start s o now number
 
--- the schedule was played to its end, from one state of the drive to another, and the report is its text
-pub record IsReported (old new : Outside) (start now : Physical) : Type 0 where
+-- the schedule was played to its end, from one scene of the world to another, and the report is its text
+pub record IsReported (old new : Outside) (start now : Scene) : Type 0 where
   pub entries : List Entry
-  pub run : IsDriveRun start entries now
+  pub run : IsDriveRun start.drive entries now.drive
+  pub count : ℕ
+  pub course : IsCourse now.image (old.told Image) entries now.wire count
+  pub looked : LooksAtMost count old new
   pub schedule : IfTold (old.told Schedule) (λ text. IsSchedule text (events_of entries))
   pub report : IfTold (new.told Report) (λ text. text ≡ report_text entries)
 
 -- the schedule was played up to its first bad line, and the report is the text of the events before it
-pub record IsStopped (old new : Outside) (start now : Physical) (number : ℕ)
+pub record IsStopped (old new : Outside) (start now : Scene) (number : ℕ)
     (kind : LineFault) : Type 0 where
   pub entries : List Entry
-  pub run : IsDriveRun start entries now
+  pub run : IsDriveRun start.drive entries now.drive
+  pub count : ℕ
+  pub course : IsCourse now.image (old.told Image) entries now.wire count
   pub schedule : IfTold (old.told Schedule) (λ text. FailsAt text (events_of entries) number kind)
   pub report : IfTold (new.told Report) (λ text. text ≡ history_text entries)

@@ -1,30 +1,29 @@
 -- A whole run, and what is promised of it.
 use Rattle.std.specs.Prelude.{ℕ, ◌≡◌, ◌*◌, ◌/◌, false, List, [], length, replicate, slice_index_or}
-use Rattle.bm_host.specs.declared.Role.TheVariants.{Disk, Schedule, Report, Out}
+use Rattle.bm_host.specs.declared.Role.TheVariants.{Image, Disk, Schedule, Report, Out}
 use Rattle.ata_taskfile.specs.declared.registers.TheConstants.{SECTOR_BYTES}
 use Rattle.bm_host.specs.Outside.{Outside, IfTold}
 use Rattle.plain_drive.specs.Plain.{sectors_in}
 use Rattle.plain_drive.specs.Cut.{IsOutcome, drive_at_power_on}
-use Rattle.plain_drive.specs.Physical.{Physical, StandsFor, fresh, physical_at_power_on}
-use Rattle.drive_model.specs.declared.cached_store.TheConstants.{MOST_ENTRIES}
+use Rattle.plain_drive.specs.Physical.{StandsFor}
+use Rattle.aoe_net.specs.Wire.{Wire}
+use Rattle.image_server.specs.Serving.{LooksAtMost}
 use Rattle.schedule_text.specs.Schedule.{IsSchedule}
 use Rattle.schedule_text.specs.declared.LineFault.{LineFault}
 use Rattle.schedule_text.specs.BadLine.{FailsAt}
 use Rattle.plain_run.specs.Entry.{Entry, events_of, history_text, report_text}
 use Rattle.plain_run.specs.Run.{Drives, IsDirectRun, drives}
 use Rattle.plain_run.specs.Written.{is_named}
+use Rattle.streaming.specs.Network.{IsCourse}
+use Rattle.streaming.specs.World.{drive_over}
 use Rattle.bmcast.specs.Chosen.{Chosen}
+use Rattle.bmcast.specs.Lengths.{HasLength}
 
 -- the sectors of a disk's bytes
 abbrev pub sectors_of_disk : List ℕ → List (List ℕ)
 sectors_of_disk disk = sectors_in (length disk / SECTOR_BYTES) disk
 
--- a drive at power-on over these sectors, all durable, with a guest's memory of so many zeros
-abbrev pub drive_over : ℕ → List (List ℕ) → Physical
-drive_over memory sectors =
-    physical_at_power_on (fresh MOST_ENTRIES sectors) (length sectors) (replicate memory 0)
-
--- the same beside the plain drive for which it stands
+-- a drive at power-on over these sectors beside the plain drive for which it stands
 abbrev pub drives_over : ℕ → List (List ℕ) → Drives
 drives_over memory sectors = drives
     (drive_at_power_on sectors (length sectors) (replicate memory 0)) (drive_over memory sectors)
@@ -43,6 +42,13 @@ pub record WasRun (memory : ℕ) (old : Outside) : Type 0 where
   -- commands of the `c` lines, and after a cut the plain drive goes on with the physical one's
   -- durable sectors
   pub run : IsDirectRun (drives_over memory sectors) entries end
+  -- there are the image's count of sectors, the network at the end, and how many sectors of the image went into
+  -- replies, once for each; event by event the network is the definition's, over the image where it is told
+  pub image : ℕ
+  pub image_length : HasLength Image old (SECTOR_BYTES * image)
+  pub wire : Wire
+  pub count : ℕ
+  pub course : IsCourse image (old.told Image) entries wire count
 
 -- the run is done, from the outside before it to that after it:
 pub record DoneRun (memory : ℕ) (old new : Outside) : Type 0 where
@@ -55,6 +61,8 @@ pub record DoneRun (memory : ℕ) (old new : Outside) : Type 0 where
   pub out : IfTold (new.told Out) (λ out. sectors_of_disk out ≡ was.end.physical.kept.durable)
   pub whole : IfTold (new.told Out) (λ out. length out ≡ SECTOR_BYTES * length was.sectors)
   pub outcome : IsOutcome was.end.plain.device.cells was.end.physical.kept.durable
+  -- no more of the image was looked at than the sectors that went into replies, and of none nothing
+  pub looked : LooksAtMost was.count old new
   -- a sector that no `c` line of a write names is the disk's
   pub unnamed : (s : ℕ) → is_named s was.entries ≡ false
       → slice_index_or was.end.physical.kept.durable s [] ≡ slice_index_or was.sectors s []

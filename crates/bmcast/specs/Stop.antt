@@ -5,8 +5,22 @@ use Rattle.schedule_text.specs.declared.LineFault.{LineFault}
 use Rattle.bm_host.specs.declared.Role.TheVariants.{Disk}
 use Rattle.bmcast.specs.declared.Status.{Status}
 use Rattle.bmcast.specs.declared.Status.TheVariants as status
+use Rattle.world.specs.declared.fault.HostFault.{HostFault}
+use Rattle.world.specs.declared.fault.HostFault.TheVariants as fault
+use Rattle.world.specs.declared.fault.StartFault.{StartFault}
+use Rattle.world.specs.declared.fault.StartFault.TheVariants as start
 use Rattle.bmcast.specs.declared.stop.Stop.{Stop}
 use Rattle.bmcast.specs.declared.stop.Stop.TheVariants as stop
+
+-- the stop for a fault of the host
+abbrev pub stop_of : HostFault → Stop
+stop_of (fault.Read role) = stop.ReadFault role
+stop_of (fault.Write role) = stop.WriteFault role
+
+-- the stop of a world that could not begin
+abbrev pub stop_at_start : StartFault → Stop
+stop_at_start (start.Host one) = stop_of one
+stop_at_start start.NoMemory = stop.NoMemory
 
 -- a stop for a fault has raised the count of that role, and any other has raised none
 abbrev pub Stopped : Stop → Outside → Outside → Type 0

@@ -4,7 +4,7 @@ ghost use Rattle.std.specs.Prelude.{◌≡◌, ◌≤◌, ◌+◌, ◌++◌, [],
 ghost use Rattle.bm_host.specs.declared.Role.TheVariants.{Console};
 ghost use Rattle.bmcast.specs.Status.{ConsoleSays, OnlyConsole};
 ghost use Rattle.bm_host.specs.Outside.{SameElsewhere};
-ghost use Rattle.bmcast.specs.Kept.{KeepsLooked};
+ghost use Rattle.block_writes.specs.Kept.{KeepsLooked};
 ghost use Rattle.bmcast.specs.StatusLine.{fault_name, role_name, status_line, status_text, why_name};
 
 use crate::{Status, Why};

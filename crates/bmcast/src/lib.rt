@@ -12,18 +12,14 @@
 #![tactic(auto)]
 
 mod console;
-mod disk;
-mod events;
 mod lengths;
-mod machine;
 mod play;
 mod run;
 mod stop;
 mod streams;
-mod waiting;
 
 ghost use Rattle.bmcast.specs.Run.{RunIsBad, RunIsDone};
-ghost use Rattle.bmcast.specs.Kept.{KeepsLooked};
+ghost use Rattle.block_writes.specs.Kept.{KeepsLooked};
 ghost use Rattle.bmcast.specs.Files.{LeavesFiles};
 ghost use Rattle.bmcast.specs.Owed.{AnswersWhatIsOwed};
 ghost use Rattle.std.specs.Prelude.{◌≡◌};

@@ -3,25 +3,23 @@
 ghost use Rattle.std.specs.Prelude.{◌≡◌, ◌≢◌, ◌≤◌, ◌+◌, ℕ, List, [], IfErr, IfOk, OnOk};
 ghost use Rattle.bm_host.specs.Outside.{Outside, IfTold};
 ghost use Rattle.bm_host.specs.declared.Role.TheVariants.{Schedule};
-ghost use Rattle.plain_drive.specs.Physical.{Physical};
-ghost use Rattle.bmcast.specs.Machine.{physical};
 ghost use Rattle.schedule_text.specs.Line.{Says, IsInRange};
 ghost use Rattle.schedule_text.specs.BadLine.{LineFails};
 ghost use Rattle.plain_run.specs.Entry.{entry_of, items_text};
-ghost use Rattle.plain_run.specs.Run.{DriveEvent};
+ghost use Rattle.streaming.specs.World.{Scene, WorldEvent};
+ghost use Rattle.block_writes.specs.Kept.{KeepsLooked};
 ghost use Rattle.bmcast.specs.Stop.{IsCounted, OnBadLine, UnlessFault};
 ghost use Rattle.bmcast.specs.Stages.{StopsAt, moving_lines, playing};
-ghost use Rattle.bmcast.specs.Kept.{KeepsFiles, KeepsLooked};
+ghost use Rattle.bmcast.specs.Kept.{KeepsFiles};
 ghost use Rattle.bmcast.specs.Streams.{unread, KeepsSaid, Reports};
-ghost use Rattle.bmcast.specs.Played.{HasPlayed, HasTaken, HasDone, HasEnded, Leads, Progresses, HasFailed};
+ghost use Rattle.bmcast.specs.Played.{Begun, HasPlayed, HasTaken, HasDone, HasEnded, Leads, Progresses, HasFailed};
 
-use crate::events::apply;
-use crate::machine::Machine;
 use crate::stop::Stop;
 use crate::streams::{Fetched, Line, Streams};
 use arrayvec::ArrayVec;
 use bm_host::Host;
 use schedule_text::{Emitted, Event, LAST_LINE, LineFault, read_event};
+use world::World;
 
 /// Whether a schedule goes on.
 #[derive(Clone, Copy, Debug, PartialEq, Eq)]
@@ -34,25 +32,27 @@ pub(crate) enum Progress {
 pub(crate) fn play<H: Host>(
     host: &mut H,
     streams: &mut Streams,
-    machine: &mut Machine,
+    world: &mut World,
 ) -> Result<u32, Stop>
+    requires empty { world.old.image ≡ 0 }
     ensures stops { IfErr result (StopsAt playing) }
     ensures looked { KeepsLooked (H.outside host.old) (H.outside host.new) }
     ensures counts { IsCounted result (H.outside host.old) (H.outside host.new) }
     ensures files { KeepsFiles (H.outside host.old) (H.outside host.new) }
-    ensures ended { IfOk result (λ number. (start : Physical)
-        → HasPlayed start streams.old (H.outside host.old) (physical machine.old) 1
-        → HasEnded start streams.new (H.outside host.new) (physical machine.new) number) }
-    ensures bad { OnBadLine result (λ bad kind. (start : Physical)
-        → HasPlayed start streams.old (H.outside host.old) (physical machine.old) 1
-        → HasFailed start streams.new (H.outside host.new) (physical machine.new) bad kind) }
+    ensures image { world.new.image ≡ world.old.image }
+    ensures ended { IfOk result (λ number. (start : Begun)
+        → HasPlayed start streams.old (H.outside host.old) world.old 1
+        → HasEnded start streams.new (H.outside host.new) world.new number) }
+    ensures bad { OnBadLine result (λ bad kind. (start : Begun)
+        → HasPlayed start streams.old (H.outside host.old) world.old 1
+        → HasFailed start streams.new (H.outside host.new) world.new bad kind) }
 {
     let mut line = ArrayVec::new();
     let mut event = Event::Remark;
     let mut out = Emitted::new();
     for number in 1..=LAST_LINE {
         match play_line(
-            host, streams, machine, &mut line, &mut event, &mut out, number,
+            host, streams, world, &mut line, &mut event, &mut out, number,
         ) {
             Ok(Progress::More) => {}
             Ok(Progress::Ended) => return Ok(number),
@@ -67,31 +67,33 @@ pub(crate) fn play<H: Host>(
 fn play_line<H: Host>(
     host: &mut H,
     streams: &mut Streams,
-    machine: &mut Machine,
+    world: &mut World,
     line: &mut Line,
     event: &mut Event,
     out: &mut Emitted,
     number: u32,
 ) -> Result<Progress, Stop>
+    requires empty { world.old.image ≡ 0 }
     requires number { number ≤ LAST_LINE }
     ensures stops { IfErr result (StopsAt playing) }
     ensures looked { KeepsLooked (H.outside host.old) (H.outside host.new) }
     ensures counts { IsCounted result (H.outside host.old) (H.outside host.new) }
     ensures files { KeepsFiles (H.outside host.old) (H.outside host.new) }
-    ensures progress { IfOk result (λ progress. (start : Physical)
-        → HasPlayed start streams.old (H.outside host.old) (physical machine.old) number
-        → Progresses progress start streams.new (H.outside host.new) (physical machine.new)
+    ensures image { world.new.image ≡ world.old.image }
+    ensures progress { IfOk result (λ progress. (start : Begun)
+        → HasPlayed start streams.old (H.outside host.old) world.old number
+        → Progresses progress start streams.new (H.outside host.new) world.new
         number) }
     ensures more { IfOk result (λ progress. progress ≡ Progress.More → number ≢ LAST_LINE) }
-    ensures bad { OnBadLine result (λ bad kind. (start : Physical)
-        → HasPlayed start streams.old (H.outside host.old) (physical machine.old) number
-        → HasFailed start streams.new (H.outside host.new) (physical machine.new) bad kind) }
+    ensures bad { OnBadLine result (λ bad kind. (start : Begun)
+        → HasPlayed start streams.old (H.outside host.old) world.old number
+        → HasFailed start streams.new (H.outside host.new) world.new bad kind) }
 {
     match take_line(host, streams, line, number) {
         Ok(()) => {}
         Err(stop) => return Err(stop),
     }
-    match do_line(host, streams, machine, line, event, out, number) {
+    match do_line(host, streams, world, line, event, out, number) {
         Ok(Progress::More) => Ok(Progress::More),
         Ok(Progress::Ended) => match expect_end(host, streams, number) {
             Ok(()) => Ok(Progress::Ended),
@@ -113,10 +115,10 @@ fn take_line<H: Host>(
     ensures looked { KeepsLooked (H.outside host.old) (H.outside host.new) }
     ensures counts { IsCounted result (H.outside host.old) (H.outside host.new) }
     ensures files { KeepsFiles (H.outside host.old) (H.outside host.new) }
-    ensures taken { OnOk result ((start now : Physical)
+    ensures taken { OnOk result ((start : Begun) (now : Scene)
         → HasPlayed start streams.old (H.outside host.old) now number
         → HasTaken start streams.new (H.outside host.new) now line.new.items number) }
-    ensures bad { OnBadLine result (λ bad kind. (start now : Physical)
+    ensures bad { OnBadLine result (λ bad kind. (start : Begun) (now : Scene)
         → HasPlayed start streams.old (H.outside host.old) now number
         → HasFailed start streams.new (H.outside host.new) now bad kind) }
 {
@@ -134,26 +136,28 @@ fn take_line<H: Host>(
 fn do_line<H: Host>(
     host: &mut H,
     streams: &mut Streams,
-    machine: &mut Machine,
+    world: &mut World,
     line: &Line,
     event: &mut Event,
     out: &mut Emitted,
     number: u32,
 ) -> Result<Progress, Stop>
+    requires empty { world.old.image ≡ 0 }
     requires number { number ≤ LAST_LINE }
     ensures stops { IfErr result (StopsAt playing) }
     ensures looked { KeepsLooked (H.outside host.old) (H.outside host.new) }
     ensures counts { IsCounted result (H.outside host.old) (H.outside host.new) }
     ensures files { KeepsFiles (H.outside host.old) (H.outside host.new) }
-    ensures done { IfOk result (λ progress. (start : Physical)
-        → HasTaken start streams.old (H.outside host.old) (physical machine.old)
+    ensures image { world.new.image ≡ world.old.image }
+    ensures done { IfOk result (λ progress. (start : Begun)
+        → HasTaken start streams.old (H.outside host.old) world.old
         line.now.items number
-        → HasDone progress start streams.new (H.outside host.new) (physical machine.new) number) }
+        → HasDone progress start streams.new (H.outside host.new) world.new number) }
     ensures more { IfOk result (λ progress. progress ≡ Progress.More → number ≢ LAST_LINE) }
-    ensures bad { OnBadLine result (λ bad kind. (start : Physical)
-        → HasTaken start streams.old (H.outside host.old) (physical machine.old)
+    ensures bad { OnBadLine result (λ bad kind. (start : Begun)
+        → HasTaken start streams.old (H.outside host.old) world.old
         line.now.items number
-        → HasFailed start streams.new (H.outside host.new) (physical machine.new) bad kind) }
+        → HasFailed start streams.new (H.outside host.new) world.new bad kind) }
 {
     match read_event(line.as_slice(), event) {
         Ok(()) => {}
@@ -163,7 +167,7 @@ fn do_line<H: Host>(
         Ok(progress) => progress,
         Err(stop) => return Err(stop),
     };
-    do_event(host, streams, machine, event, number, out)?;
+    do_event(host, streams, world, event, number, out)?;
     Ok(progress)
 }
 
@@ -186,25 +190,29 @@ fn progress_after(event: &Event, number: u32) -> Result<Progress, Stop>
 fn do_event<H: Host>(
     host: &mut H,
     streams: &mut Streams,
-    machine: &mut Machine,
+    world: &mut World,
     event: &Event,
     number: u32,
     out: &mut Emitted,
 ) -> Result<(), Stop>
+    requires empty { world.old.image ≡ 0 }
     requires in_range { IsInRange event.now }
     ensures counts { IsCounted result (H.outside host.old) (H.outside host.new) }
     ensures stops { IfErr result (StopsAt moving_lines) }
     ensures looked { KeepsLooked (H.outside host.old) (H.outside host.new) }
     ensures files { KeepsFiles (H.outside host.old) (H.outside host.new) }
-    ensures event { DriveEvent (physical machine.old)
-        (entry_of event.now out.new.items.items out.new.bytes.items) (physical machine.new) }
+    ensures image { world.new.image ≡ world.old.image }
+    ensures event { OnOk result (WorldEvent (H.outside host.old) (H.outside host.new) world.old
+        (entry_of event.now out.new.items.items out.new.bytes.items) world.new) }
     ensures reported { OnOk result
         (Reports streams.old streams.new (H.outside host.old) (H.outside host.new)
         (items_text number out.new.items.items out.new.bytes.items)) }
 {
     out.clear();
-    apply(machine, event, out);
-    streams.report(host, number, out)
+    match world.apply(host, event, out) {
+        Ok(()) => streams.report(host, number, out),
+        Err(fault) => Err(Stop::of(fault)),
+    }
 }
 
 // Nothing follows the line `end`, which has this number.

@@ -1,32 +1,37 @@
-//! A whole run, step by step: words, lengths, files, disk, events, report and out.
+//! A whole run, step by step: words, lengths, files, the world's start, events, report, and the world's end.
 
-ghost use Rattle.std.specs.Prelude.{◌≡◌, ◌/◌, ◌%◌, ◌≤◌, ◌⊎◌, [], IfErr, OnOk, IfOk};
-ghost use Rattle.bm_host.specs.declared.Role.TheVariants.{Disk, Out};
-ghost use Rattle.plain_drive.specs.Physical.{Physical};
-ghost use Rattle.bmcast.specs.Machine.{physical};
+ghost use Rattle.std.specs.Prelude.{◌≡◌, ◌≤◌, ◌⊎◌, [], IfErr, OnOk, IfOk};
+ghost use Rattle.aoe_net.specs.Wire.{nothing_sent};
+ghost use Rattle.bm_host.specs.Outside.{IfTold};
+ghost use Rattle.bm_host.specs.declared.Role.TheVariants.{Out};
+ghost use Rattle.block_writes.specs.Kept.{KeepsFilesBut, KeepsLooked};
+ghost use Rattle.std.specs.List.{concat};
+ghost use Rattle.monitor_state.specs.Setup.{IsSetup};
+ghost use Rattle.run_words.specs.Options.{seen};
 ghost use Rattle.run_words.specs.Pairs.{texts};
 ghost use Rattle.bmcast.specs.Files.{IsOpened, LeavesFiles};
-ghost use Rattle.bmcast.specs.Kept.{KeepsFiles, KeepsLooked, SameConsole};
-ghost use Rattle.bmcast.specs.Lengths.{HasLength};
+ghost use Rattle.bmcast.specs.Kept.{KeepsFiles, SameConsole};
+ghost use Rattle.bmcast.specs.Lengths.{IsAreaOf};
+ghost use Rattle.bmcast.specs.SetUp.{setup_of};
 ghost use Rattle.bmcast.specs.Stop.{IsCounted, OnBadLine};
-ghost use Rattle.bmcast.specs.Stages.{IsLate, StopsAt, beginning, playing};
+ghost use Rattle.bmcast.specs.Stages.{IsLate, StopsAt, beginning, playing, writing_out};
 ghost use Rattle.bmcast.specs.Status.{HasCome, HasItsReason};
 ghost use Rattle.bmcast.specs.Stop.{OnLoading, status_after};
-ghost use Rattle.bmcast.specs.Played.{HasPlayed, HasEnded, HasFailed};
+ghost use Rattle.bmcast.specs.Played.{Begun, HasPlayed, HasEnded, HasFailed};
 ghost use Rattle.bmcast.specs.Played.{IsReported, IsStopped};
 ghost use Rattle.bmcast.specs.Run.{DoneRun, BadLineRun, RunIsBad, RunIsDone};
 
-use crate::disk::{load, write_out};
 use crate::lengths::measure;
-use crate::machine::Machine;
 use crate::play::play;
 use crate::stop::Stop;
 use crate::streams::Streams;
-use ata_taskfile::registers::SECTOR_BYTES;
 use bm_dma::MOST_BYTES;
 use bm_host::{Host, Role};
+use fill_bitmap::Area;
+use monitor_state::Setup;
 use run_words::{Options, read_options};
 use std::alloc::Global;
+use world::World;
 
 /// Does what the words say, to the end of the schedule.
 ///
@@ -47,23 +52,39 @@ pub(crate) fn run<H: Host>(alloc: Global, words: &[String], host: &mut H) -> Res
     let Some(options) = read_options(words) else {
         return Err(Stop::Usage);
     };
-    let size = match measure(host, &options) {
-        Ok(size) => size,
+    let area = match measure(host, &options) {
+        Ok(area) => area,
         Err(stop) => return Err(stop),
     };
-    run_events(alloc, host, &options, size)
+    run_events(alloc, host, &options, &set_up(&options, area))
 }
 
-// Does the events over files that are suitable, of which the disk has `size` bytes.
+// What the words set a deployment up with, over this area.
+fn set_up(options: &Options<'_>, area: Area) -> Setup
+    requires { IsSetup (setup_of area (seen options.now)) }
+    ensures { result ≡ setup_of area (seen options.now) }
+{
+    Setup {
+        area,
+        id: options.id,
+        gap: options.gap as u32,
+        window: options.window as u32,
+        limit: options.limit as u32,
+        pool: options.pool as u32,
+    }
+}
+
+// Does the events over files that are suitable, set up so.
 fn run_events<H: Host>(
     alloc: Global,
     host: &mut H,
     options: &Options<'_>,
-    size: u64,
+    setup: &Setup,
 ) -> Result<(), Stop>
-    requires whole { size % SECTOR_BYTES ≡ 0 }
+    requires setup { IsSetup setup.now }
     requires memory { options.now.memory ≤ MOST_BYTES }
-    requires disk { HasLength Disk (H.outside host.old) size }
+    requires area { IsAreaOf setup.now.area (H.outside host.old) }
+    requires empty { setup.now.area.image ≡ 0 }
     ensures counts { IsCounted result (H.outside host.old) (H.outside host.new) }
     ensures late { IfErr result IsLate }
     ensures looked { KeepsLooked (H.outside host.old) (H.outside host.new) }
@@ -79,16 +100,33 @@ fn run_events<H: Host>(
         Ok(()) => {}
         Err(stop) => return Err(stop),
     }
-    let mut machine = load(alloc, host, size, options.memory as u32)?;
-    match report_run(host, &mut machine) {
-        Ok(()) => {}
-        Err(stop) => return Err(stop),
+    let mut world = match World::start(alloc, host, setup, options.memory as u32) {
+        Ok(world) => world,
+        Err(fault) => return Err(Stop::at_start(fault)),
+    };
+    match report_run(host, &mut world) {
+        Ok(()) => end_run(host, world),
+        Err(stop) => {
+            world.discard();
+            Err(stop)
+        }
     }
-    match write_out(host, &mut machine, size / SECTOR_BYTES as u64) {
-        Ok(()) => {}
-        Err(stop) => return Err(stop),
+}
+
+// Ends the world, and writes out.
+fn end_run<H: Host>(host: &mut H, world: World) -> Result<(), Stop>
+    requires empty { IfTold ((H.outside host.old).told Out) (λ bytes. bytes ≡ []) }
+    ensures counts { IsCounted result (H.outside host.old) (H.outside host.new) }
+    ensures stops { IfErr result (StopsAt writing_out) }
+    ensures looked { KeepsLooked (H.outside host.old) (H.outside host.new) }
+    ensures files { KeepsFilesBut Out (H.outside host.old) (H.outside host.new) }
+    ensures out { OnOk result (IfTold ((H.outside host.new).told Out)
+        (λ bytes. bytes ≡ concat world.drive.kept.durable)) }
+{
+    match world.close(host) {
+        Ok(()) => Ok(()),
+        Err(fault) => Err(Stop::of(fault)),
     }
-    Ok(())
 }
 
 // Begins the files of the run but image and disk; report and out are empty afterwards.
@@ -113,19 +151,22 @@ fn begin_files<H: Host>(host: &mut H, options: &Options<'_>) -> Result<(), Stop>
 }
 
 // Plays the schedule to its end, and writes the report; the same up to a line that is bad.
-fn report_run<H: Host>(host: &mut H, machine: &mut Machine) -> Result<(), Stop>
+fn report_run<H: Host>(host: &mut H, world: &mut World) -> Result<(), Stop>
     requires ready { IsOpened (H.outside host.old) }
+    requires nothing { world.old.wire ≡ nothing_sent }
+    requires empty { world.old.image ≡ 0 }
+    ensures image { world.new.image ≡ world.old.image }
     ensures counts { IsCounted result (H.outside host.old) (H.outside host.new) }
     ensures files { KeepsFiles (H.outside host.old) (H.outside host.new) }
     ensures stops { IfErr result (StopsAt playing) }
     ensures looked { KeepsLooked (H.outside host.old) (H.outside host.new) }
     ensures reported { OnOk result (IsReported (H.outside host.old) (H.outside host.new)
-        (physical machine.old) (physical machine.new)) }
+        world.old world.new) }
     ensures bad { OnBadLine result (IsStopped (H.outside host.old) (H.outside host.new)
-        (physical machine.old) (physical machine.new)) }
+        world.old world.new) }
 {
     let mut streams = Streams::new();
-    let number = match play_to_end(host, &mut streams, machine) {
+    let number = match play_to_end(host, &mut streams, world) {
         Ok(number) => number,
         Err(stop) => return Err(stop),
     };
@@ -135,24 +176,22 @@ fn report_run<H: Host>(host: &mut H, machine: &mut Machine) -> Result<(), Stop>
 }
 
 // Plays the schedule. Where a line isn't one, the report of the events before it is written all the same.
-fn play_to_end<H: Host>(
-    host: &mut H,
-    streams: &mut Streams,
-    machine: &mut Machine,
-) -> Result<u32, Stop>
+fn play_to_end<H: Host>(host: &mut H, streams: &mut Streams, world: &mut World) -> Result<u32, Stop>
+    requires empty { world.old.image ≡ 0 }
+    ensures image { world.new.image ≡ world.old.image }
     ensures counts { IsCounted result (H.outside host.old) (H.outside host.new) }
     ensures files { KeepsFiles (H.outside host.old) (H.outside host.new) }
     ensures stops { IfErr result (StopsAt playing) }
     ensures looked { KeepsLooked (H.outside host.old) (H.outside host.new) }
-    ensures ended { IfOk result (λ number. (start : Physical)
-        → HasPlayed start streams.old (H.outside host.old) (physical machine.old) 1
-        → HasEnded start streams.new (H.outside host.new) (physical machine.new) number) }
-    ensures bad { OnBadLine result (λ bad kind. (start : Physical)
-        → HasPlayed start streams.old (H.outside host.old) (physical machine.old) 1
-        → HasFailed start streams.new (H.outside host.new) (physical machine.new) bad kind) }
+    ensures ended { IfOk result (λ number. (start : Begun)
+        → HasPlayed start streams.old (H.outside host.old) world.old 1
+        → HasEnded start streams.new (H.outside host.new) world.new number) }
+    ensures bad { OnBadLine result (λ bad kind. (start : Begun)
+        → HasPlayed start streams.old (H.outside host.old) world.old 1
+        → HasFailed start streams.new (H.outside host.new) world.new bad kind) }
     ensures written { OnBadLine result (λ bad kind. streams.new.pending.items ≡ []) }
 {
-    match play(host, streams, machine) {
+    match play(host, streams, world) {
         Ok(number) => Ok(number),
         Err(Stop::BadLine(number, fault)) => match streams.flush(host) {
             Ok(()) => Err(Stop::BadLine(number, fault)),

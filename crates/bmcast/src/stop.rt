@@ -4,11 +4,12 @@
 //! it is known only that it is an error.
 
 ghost use Rattle.std.specs.Prelude.{◌≡◌};
-ghost use Rattle.bmcast.specs.Stop.{status_of};
+ghost use Rattle.bmcast.specs.Stop.{status_of, stop_at_start, stop_of};
 
 use crate::{Status, Why};
 use bm_host::Role;
 use schedule_text::LineFault;
+use world::{HostFault, StartFault};
 
 /// A run's end other than Done. It is an enum beside `Status`, which has Done too, so that by its type no step that
 /// fails can answer that the run is done.
@@ -24,6 +25,26 @@ pub(crate) enum Stop {
 }
 
 impl Stop {
+    /// The stop for a fault of the host.
+    pub(crate) fn of(fault: HostFault) -> Stop
+        ensures { result ≡ stop_of fault }
+    {
+        match fault {
+            HostFault::Read(role) => Stop::ReadFault(role),
+            HostFault::Write(role) => Stop::WriteFault(role),
+        }
+    }
+
+    /// The stop of a world that could not begin.
+    pub(crate) fn at_start(fault: StartFault) -> Stop
+        ensures { result ≡ stop_at_start fault }
+    {
+        match fault {
+            StartFault::Host(fault) => Stop::of(fault),
+            StartFault::NoMemory => Stop::NoMemory,
+        }
+    }
+
     /// The status that the run ends with.
     pub(crate) fn status(self) -> Status
         ensures { result ≡ status_of self }

@@ -6,8 +6,8 @@ ghost use Rattle.schedule_text.specs.declared.TheConstants.{ANSWER_BYTES};
 ghost use Rattle.bmcast.specs.declared.streams.TheConstants.{BLOCK};
 
 use crate::stop::Stop;
-use crate::waiting::{make_room, write_waiting};
 use arrayvec::ArrayVec;
+use block_writes::{make_room, write_waiting};
 use bm_host::{Host, Role};
 use memchr::memchr;
 use schedule_text::{Emitted, Item, LINE_BYTES, REPORT_LINE, write_end, write_item};
@@ -44,7 +44,8 @@ impl Streams {
     ghost use Rattle.plain_run.specs.Entry.{items_text};
     ghost use Rattle.bmcast.specs.Stop.{IsCounted};
     ghost use Rattle.bmcast.specs.Stages.{StopsAt, moving_lines};
-    ghost use Rattle.bmcast.specs.Kept.{KeepsFiles, KeepsLooked};
+    ghost use Rattle.block_writes.specs.Kept.{KeepsLooked};
+    ghost use Rattle.bmcast.specs.Kept.{KeepsFiles};
     ghost use Rattle.bmcast.specs.Streams.{unread, Takes, TakesBytes, Fetches, KeepsSaid, Reports};
 
     /// Nothing read and nothing to write.
@@ -74,7 +75,10 @@ impl Streams {
         ensures schedule { (H.outside host.new).given Schedule
             ≡ (H.outside host.old).given Schedule }
     {
-        write_waiting(host, Role::Report, &mut self.pending)
+        let Ok(()) = write_waiting(host, Role::Report, &mut self.pending) else {
+            return Err(Stop::WriteFault(Role::Report));
+        };
+        Ok(())
     }
 
     /// Appends the report's lines for an event whose line has this number.
@@ -142,7 +146,9 @@ impl Streams {
             (Reports self.old self.new (H.outside host.old) (H.outside host.new)
             (self.old.line.items)) }
     {
-        make_room(host, Role::Report, &mut self.pending, REPORT_LINE)?;
+        let Ok(()) = make_room(host, Role::Report, &mut self.pending, REPORT_LINE) else {
+            return Err(Stop::WriteFault(Role::Report));
+        };
         self.pending
             .try_extend_from_slice(self.line.as_slice())
             .unwrap();

@@ -1,6 +1,5 @@
 use Rattle.std.proofs.Common.{refl}
 use Rattle.std.specs.Prelude.{Err}
-use Rattle.bm_host.specs.declared.Role.TheVariants.{Schedule}
 use Rattle.bmcast.specs.declared.play.Progress.{Progress}
 use Rattle.bmcast.proofs.StopLaws.{bad_line_weaker}
 use Rattle.bmcast.proofs.Lines.{line_fails}
@@ -29,6 +28,6 @@ returns-clause-done g c = λ start was.
     line_done start c.args.streams.now c.do_event.new.streams (g.H.Host.outside c.args.host.now)
     (g.H.Host.outside c.do_event.new.host)
     _ _ c.args.line.now.items c.args.number _ _ _ says
-    (c.in_ok-do_event.ensures.files Schedule (λ e. cc)) c.in_ok-do_event.ensures.event
+    c.in_ok-do_event.ensures.files c.in_ok-do_event.ensures.event
     c.in_ok-do_event.ensures.reported was
     c.in-Ok-progress_after.progress c.requires.number c.in-Ok-progress_after.ensures.leads

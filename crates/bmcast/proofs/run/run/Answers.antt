@@ -10,7 +10,7 @@ returns-clause-done g c = on_ok_weaker c.run_events.result
     (λ done. record {
       choice = seen c.in-Some.options;
       says = c.in-Some.ensures.found;
-      holds = done_from _ _ _ _ c.in-Ok.ensures.files done;
+      holds = done_from _ _ _ _ c.in-Ok.ensures.files c.in-Ok.ensures.looked done;
     })
     c.run_events.ensures.done
 
