@@ -179,7 +179,8 @@ end_stepped v order done d e p at nothing follows =
     good-in q (Busy (Good order) done) at
     ∙ ap (λ form. with_cells (cells_after (change_proceeded form order done q) p.device.cells)
     (proceeded form order done q)) form
-    ∙ ap (λ r. with_cells cells (ended r)) (ap (λ form. without_walk form q) (sym form) ∙ without-beside v order done d p at)
+    ∙ ap (λ r. with_cells cells (ended r))
+    (ap (λ form. without_walk form q) (sym form) ∙ without-beside v order done d p at)
     ∙ registers-stepped (view_without_walk v) d e (with_cells cells p) (interrupted_in Idle v.file)
     (record { before = follows.before; after = follows.after; bus = follows.bus })
 

@@ -86,7 +86,8 @@ bus_alone v access.ReadPointer d calm = refl
 bus_alone v (access.WritePointer x) d calm = refl
 bus_alone v access.Line d calm = refl
 
-running-bus : (job : OwnJob) (done : ℕ) (b : Bus) (d : Device) → IsRunning job done d → IsRunning job done (with_bus b d)
+running-bus : (job : OwnJob) (done : ℕ) (b : Bus) (d : Device) → IsRunning job done d
+    → IsRunning job done (with_bus b d)
 running-bus job done b d runs =
     record { masked = runs.masked; selected = runs.selected; stands = runs.stands; well = runs.well }
 

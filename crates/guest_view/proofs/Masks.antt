@@ -100,7 +100,8 @@ module _ (waits : Bool) (v : View) (d : Device) (n : ℕ) (same : d.file.pending
   pends-read reg.BusStatus = same
 
   pends-block : (ignored : Bool) (f : TaskFile) → f.pending ≡ v.file.pending
-      → d.file.pending ≡ (view_wrote (if ignored then Ignored else Stored) (if ignored then v.file else f) n v).file.pending
+      → d.file.pending
+      ≡ (view_wrote (if ignored then Ignored else Stored) (if ignored then v.file else f) n v).file.pending
   pends-block true f p = same
   pends-block false f p = same ∙ sym p
 

@@ -22,7 +22,8 @@ use Rattle.guest_view.specs.View.{view_with_file, view_wrote, view_after, is_res
 use Rattle.guest_view.specs.Drive.{acknowledged, nien_written, drive_after, drive_after_read, drive_after_write}
 
 -- a rise of the drive's line is seen
-raised-beside : (was now : Bool) (kept b : Bus) → bus_beside kept (raised was now b) ≡ raised was now (bus_beside kept b)
+raised-beside : (was now : Bool) (kept b : Bus)
+    → bus_beside kept (raised was now b) ≡ raised was now (bus_beside kept b)
 raised-beside was now kept b = grind arith
 
 status-beside : (x : ℕ) (kept b : Bus)

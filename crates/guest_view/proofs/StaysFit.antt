@@ -82,7 +82,8 @@ module _ (v : View) (n : ℕ) (fits : FitsView v n) where
       absurd (let late = not-fresh v.file.phase at in let was = ap is_just_taken is in cc)
 
   control-ordered : (held : Bool) (x : ℕ) → (if held then control_wrote v.file.phase else Stored) ≡ Stored
-      → (let f = if held then in_reset v.file.phase (record v.file { control = x }) else record v.file { control = x } in
+      → (let f = if held then in_reset v.file.phase (record v.file { control = x })
+      else record v.file { control = x } in
       is_just_taken f.phase ≡ true → IsOrdered (view_with_file f v) f.command n)
   control-ordered true x taken fresh = let ordered = fits.ordered in grind arith
   control-ordered false x taken fresh = fits.ordered fresh
@@ -139,7 +140,8 @@ module _ (v : View) (n : ℕ) (fits : FitsView v n) where
 
   is_lawful : IsLawful device
   unfolding device
-  is_lawful = subst (λ words. IsLawfulState v.file v.bus words n) (sym (length-replicate {A = ℕ} 256 0)) (state_of v n fits)
+  is_lawful = subst (λ words. IsLawfulState v.file v.bus words n) (sym (length-replicate {A = ℕ} 256 0))
+      (state_of v n fits)
 
   -- a read of Data
   data-fits : FitsView (view_with_phase (phase_after_read v.file.phase) v) n
@@ -155,7 +157,8 @@ module _ (v : View) (n : ℕ) (fits : FitsView v n) where
   unfolding device
   pointer-fits x = fits_of (record v { bus = pointer_written x v.bus }) n
       (subst (λ words. IsLawfulState v.file (pointer_written x v.bus) words n)
-      (length-replicate {A = ℕ} 256 0) (accessed-lawful (access.WritePointer x) device is_lawful)) fits.ordered fits.served
+      (length-replicate {A = ℕ} 256 0) (accessed-lawful (access.WritePointer x) device is_lawful)) fits.ordered
+      fits.served
 
 -- any access
 pub fits_after : (a : Access) (v : View) (n : ℕ) → FitsView v n → FitsView (view_after a n v) n

@@ -123,7 +123,8 @@ pub fn accesses_leave_the_drives_work()
     ensures left { (waits : Bool) (v : ViewOf) (a : AccessOf) (d : Device) →
         LeavesWork d (drive_after waits v a d) }
     ensures runs { (job : JobOf) (done : ℕ) (v : ViewOf) (a : AccessOf) (d : Device) →
-        v.file.pending ≡ false → IsRunning job done d → IsRunning job done (drive_after false v a d) }
+        v.file.pending ≡ false → IsRunning job done d
+        → IsRunning job done (drive_after false v a d) }
     ensures alone { (v : ViewOf) (a : AccessOf) (d : Device) → v.file.pending ≡ false
         → drive_after false v a d ≡ with_bus (drive_after false v a d).bus d }
     ensures flies { (sector : ℕ) (v : ViewOf) (a : AccessOf) (d : Device) → v.file.pending ≡ false

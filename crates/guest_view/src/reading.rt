@@ -1,11 +1,11 @@
 //! A guest's reads while the monitor has the drive.
 
-ghost use Rattle.std.specs.Prelude.{◌≡◌, true};
+ghost use Rattle.std.specs.Prelude.{◌≡◌, false, true};
 ghost use Rattle.ata_taskfile.specs.Accesses.{Reaches};
 ghost use Rattle.ata_taskfile.specs.Data.{is_given, word_in, phase_after_read};
 ghost use Rattle.ata_taskfile.specs.Device.{Device, byte_read};
 ghost use Rattle.ata_taskfile.specs.Lawful.{IsLawfulPhase};
-ghost use Rattle.ata_taskfile.specs.TaskFile.{after_read};
+ghost use Rattle.ata_taskfile.specs.TaskFile.{after_read, is_of_bus, value};
 ghost use Rattle.ata_taskfile.specs.Bus.{bus_value};
 ghost use Rattle.port_lease.specs.Seen.{bus_beside};
 ghost use Rattle.guest_view.specs.Seen.{on_monitor_side};
@@ -29,12 +29,24 @@ pub(crate) fn read8<P: Ports>(view: &mut View, ports: &mut P, reg: Reg) -> u8
     match reg {
         Reg::BusCommand => view.bus.read(reg),
         Reg::BusStatus => status_seen(&view.bus, ports),
-        Reg::Status => {
-            acknowledge_where(ports, view.file.pending);
-            view.file.read(reg)
-        }
-        _ => view.file.read(reg),
+        _ => read_file(view, ports, reg),
     }
+}
+
+// A read of a register of the task file. One of Status acknowledges, in the drive too.
+fn read_file<P: Ports>(view: &mut View, ports: &mut P, reg: Reg) -> u8
+    requires { is_of_bus reg ≡ false }
+    ensures answer { result ≡ value reg view.old.file }
+    ensures view { view.new ≡ view_with_file (after_read reg view.old.file) view.old }
+    ensures drive { P.device ports.new ≡ drive_after_read reg view.old (P.device ports.old) }
+    ensures rest { P.rest ports.new ≡ P.rest ports.old }
+    ensures reached { (origin : Device) → Reaches origin (P.device ports.old)
+        → Reaches origin (P.device ports.new) }
+{
+    if let Reg::Status = reg {
+        acknowledge_where(ports, view.file.pending);
+    }
+    view.file.read(reg)
 }
 
 // The status register of the bus master: its interrupt bit is the drive's, its error bit is of both.
