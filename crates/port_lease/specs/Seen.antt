@@ -44,8 +44,7 @@ drive_on_guest_side v p = record p { device = on_guest_side v p.device }
 abbrev pub seen_on_guest_side : View → Device → Seen
 seen_on_guest_side v d = seen_of (on_guest_side v d)
 
--- what the guest sees on the monitor's side: the registers of the view, and the line of the drive (own); no code
--- answers by it yet
+-- what the guest sees on the monitor's side: the registers of the view, and the line of the drive (own)
 abbrev pub seen_on_monitor_side : View → Device → Seen
 seen_on_monitor_side v d =
     record { file = v.file; bus = bus_beside v.bus d.bus; line = line d.file }
