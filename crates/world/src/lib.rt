@@ -2,10 +2,10 @@
 //! empty. A monitor is built later; until then each access of the guest reaches the drive.
 //!
 //! Start with `World`. `events` has an event of the drive, `network` one of the network, and `disk` how the disk's
-//! sectors are read before the run and written to Out after it. `specs/Faults.antt` says how a call fails; what an event
-//! does is defined in the crate `streaming`, and `docs/network.md` has the same in words.
+//! sectors are read before the run and written to Out after it. `specs/Faults.antt` says how a call fails; what an
+//! event does is defined in the crate `streaming`, and `docs/network.md` has the same in words.
 //!
-//! The tests are those of the crate `worked_runs`.
+//! The tests are in `src/tests.rt`, and those of whole runs in the crate `worked_runs`.
 
 #![tactic(auto)]
 
@@ -14,6 +14,8 @@ mod events;
 mod fault;
 mod machine;
 mod network;
+#[cfg(test)]
+mod tests;
 mod world;
 
 pub use fault::{HostFault, StartFault};

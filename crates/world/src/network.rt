@@ -3,11 +3,12 @@
 ghost use Rattle.std.specs.Prelude.{Some, OnErr, OnOk, slice_get, if◌then◌else◌};
 ghost use Rattle.bm_host.specs.declared.Role.TheVariants.{Image};
 ghost use Rattle.bm_host.specs.Outside.{Counted, Reads, SameBytes};
-ghost use Rattle.image_server.specs.Serving.{HasImage};
+ghost use Rattle.image_server.specs.Serving.{HasImage, LooksAtSent};
 ghost use Rattle.aoe_net.specs.Wire.{without};
 ghost use Rattle.aoe_net.specs.declared.way.Way.TheVariants.{ToServer};
 ghost use Rattle.streaming.specs.Network.{handed_to_server, taken_out};
 ghost use Rattle.world.specs.Conveying.{Conveys, NeedsSectors};
+ghost use Rattle.world.specs.Looked.{LooksAtHanded};
 
 use aoe_frame::{Frame, a_frame_has_a_reading};
 use aoe_net::{Net, Way};
@@ -26,6 +27,8 @@ pub(crate) fn convey<H: Host>(
     ensures network { OnOk result (Conveys sectors (H.outside host.old) (H.outside host.new)
         (handed_to_server event.now net.old) (taken_out event.now net.old) net.new) }
     ensures needed { OnErr result (NeedsSectors sectors (handed_to_server event.now net.old)) }
+    ensures looked { LooksAtHanded sectors (handed_to_server event.now net.old)
+        (H.outside host.old) (H.outside host.new) }
     ensures cause { Counted Reads Image (H.outside host.old) (H.outside host.new) result }
     ensures bytes { SameBytes (H.outside host.old) (H.outside host.new) }
 {
@@ -58,6 +61,8 @@ fn deliver<H: Host>(
         (slice_get net.old.to_server k) (if keep then net.old else without ToServer k net.old)
         net.new) }
     ensures needed { OnErr result (NeedsSectors sectors (slice_get net.old.to_server k)) }
+    ensures looked { LooksAtHanded sectors (slice_get net.old.to_server k)
+        (H.outside host.old) (H.outside host.new) }
     ensures cause { Counted Reads Image (H.outside host.old) (H.outside host.new) result }
     ensures bytes { SameBytes (H.outside host.old) (H.outside host.new) }
 {
@@ -73,6 +78,7 @@ fn answer<H: Host>(host: &mut H, net: &mut Net, sectors: u64, frame: &Frame) -> 
     ensures network { OnOk result (Conveys sectors (H.outside host.old) (H.outside host.new)
         (Some frame.now) net.old net.new) }
     ensures needed { OnErr result (NeedsSectors sectors (Some frame.now)) }
+    ensures looked { LooksAtSent sectors frame.now (H.outside host.old) (H.outside host.new) }
     ensures cause { Counted Reads Image (H.outside host.old) (H.outside host.new) result }
     ensures bytes { SameBytes (H.outside host.old) (H.outside host.new) }
 {

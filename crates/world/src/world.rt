@@ -9,9 +9,11 @@ ghost use Rattle.image_server.specs.Serving.{HasImage};
 ghost use Rattle.plain_drive.specs.Plain.{sectors_in};
 ghost use Rattle.schedule_text.specs.Line.{IsInRange};
 ghost use Rattle.plain_run.specs.Entry.{entry_of};
+ghost use Rattle.streaming.specs.Network.{handed_to_server};
 ghost use Rattle.streaming.specs.World.{HandsSectors, WorldEvent, started};
 ghost use Rattle.monitor_state.specs.Setup.{IsSetup};
 ghost use Rattle.world.specs.Faults.{FailsAtStart, FailsByHost};
+ghost use Rattle.world.specs.Looked.{LooksAtHanded};
 ghost use Rattle.world.specs.declared.fault.HostFault.TheVariants.{Read, Write};
 
 use crate::disk::{load, write_out};
@@ -108,6 +110,8 @@ impl World {
         ensures needed { OnErr result (HandsSectors event.now self.old) }
         ensures role { IfErr result (λ fault. fault ≡ Read Image) }
         ensures fault { FailsByHost result (H.outside host.old) (H.outside host.new) }
+        ensures looked { LooksAtHanded self.old.image (handed_to_server event.now self.old.wire)
+            (H.outside host.old) (H.outside host.new) }
         ensures files { SameBytes (H.outside host.old) (H.outside host.new) }
     {
         let Ok(()) = convey(host, &mut self.net, self.image, event) else {
