@@ -13,6 +13,7 @@ use Rattle.own_pio.specs.Running.{IsRunning}
 use Rattle.own_pio.specs.declared.job.OwnJob.{OwnJob}
 use Rattle.dummy_read.specs.Flight.{IsInFlight}
 use Rattle.port_lease.specs.declared.view.View.{View}
+use Rattle.port_lease.specs.Free.{shows_rest}
 use Rattle.guest_view.specs.View.{view_after, is_control}
 use Rattle.guest_view.specs.Drive.{acknowledged, nien_written, drive_after, drive_after_read, drive_after_write, LeavesWork}
 
@@ -57,6 +58,11 @@ work_left waits v (access.WriteWord w) d = none-left d
 work_left waits v access.ReadPointer d = none-left d
 work_left waits v (access.WritePointer x) d = none-left d
 work_left waits v access.Line d = none-left d
+
+-- so a drive at rest shows that it rests
+pub rests_on : (waits : Bool) (v : View) (a : Access) (d : Device)
+    → shows_rest (drive_after waits v a d).file ≡ shows_rest d.file
+rests_on waits v a d = ap shows_rest (work_left waits v a d).file
 
 -- where nothing pends for the guest, and no dummy read waits, a write changes the bus master alone
 alone-write : (r : Reg) (x : ℕ) (v : View) (d : Device) → v.file.pending ≡ false

@@ -1,5 +1,6 @@
 -- An access leaves nIEN and the interrupt of view and drive alike, where they were.
 use Rattle.std.proofs.Common.{◌≡◌, ℕ, Bool, true, false, not, ◌&&◌, ◌||◌, if◌then◌else◌, bit_and, refl, sym, ap, ◌∙◌}
+use Rattle.std.proofs.Math.Bool.{and-false, and-true}
 use Rattle.ata_taskfile.specs.declared.Reg.{Reg}
 use Rattle.ata_taskfile.specs.declared.Reg.TheVariants as reg
 use Rattle.ata_taskfile.specs.declared.Access.{Access}
@@ -12,7 +13,7 @@ use Rattle.ata_taskfile.specs.Device.{Device}
 use Rattle.port_lease.specs.declared.view.View.{View}
 use Rattle.guest_view.specs.View.{view_wrote, view_after, is_reset}
 use Rattle.guest_view.specs.Drive.{acknowledged, nien_written, drive_after, drive_after_read, drive_after_write}
-use Rattle.guest_view.proofs.OneDevice.{masks, nien_kept, nien_alone, nien_reached, and_false, and_true}
+use Rattle.guest_view.proofs.OneDevice.{masks, nien_kept, nien_alone, nien_reached}
 
 module _ (waits : Bool) (v : View) (d : Device) (n : ℕ) (same : masks_line d.file ≡ masks_line v.file) where
   acknowledged-masks : (needed : Bool) → masks_line (acknowledged needed d).file ≡ masks_line d.file
@@ -108,9 +109,9 @@ module _ (waits : Bool) (v : View) (d : Device) (n : ℕ) (same : d.file.pending
   pends-command : (x : ℕ) (ignored : Bool) → (acknowledged (v.file.pending && not ignored) d).file.pending
       ≡ (view_wrote (if ignored then Ignored else Command x)
       (if ignored then v.file else stored reg.Status x v.file) n v).file.pending
-  pends-command x true = ap (λ p. (acknowledged p d).file.pending) (and_false v.file.pending) ∙ same
+  pends-command x true = ap (λ p. (acknowledged p d).file.pending) (and-false v.file.pending) ∙ same
   pends-command x false =
-      ap (λ p. (acknowledged p d).file.pending) (and_true v.file.pending) ∙ pends-ended v.file.pending refl
+      ap (λ p. (acknowledged p d).file.pending) (and-true v.file.pending) ∙ pends-ended v.file.pending refl
 
   pends-nien : (needed : Bool) (x : ℕ) → (nien_written needed x d).file.pending ≡ d.file.pending
   pends-nien true x = ap (λ (e : Device). e.file.pending) (nien_reached (has_bit NIEN x) d)

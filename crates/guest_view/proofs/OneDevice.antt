@@ -1,6 +1,7 @@
 -- A guest's access on the monitor's side is one to the device that it sees there.
 use Rattle.std.proofs.Common.{◌≡◌, ℕ, Bool, true, false, not, ◌&&◌, ◌||◌, ◌==◌, ◌++◌, [], ◌∷◌, if◌then◌else◌, bit_and, refl, sym, ap, ◌∙◌, arith}
 use Rattle.std.proofs.lemmas.Nat.{and_assoc}
+use Rattle.std.proofs.Math.Bool.{and-false, and-true}
 use Rattle.ata_taskfile.specs.declared.Reg.{Reg}
 use Rattle.ata_taskfile.specs.declared.Reg.TheVariants as reg
 use Rattle.ata_taskfile.specs.declared.Access.{Access}
@@ -61,14 +62,6 @@ fallen false b = refl
 file-alone : (v : View) (d g : Device) (f : TaskFile) → ((b : Bus) → raised (line v.file) (line f) b ≡ b)
     → with_file f (on_monitor_side v d g) ≡ on_monitor_side (view_with_file f v) d g
 file-alone v d g f stays = ap (λ b. record g { file = f; bus = b }) (stays (bus_beside v.bus d.bus))
-
-pub and_false : (p : Bool) → (p && false) ≡ false
-and_false true = refl
-and_false false = refl
-
-pub and_true : (p : Bool) → (p && true) ≡ p
-and_true true = refl
-and_true false = refl
 
 pub or_false : (p q : Bool) → (p || q) ≡ false → p ≡ false
 or_false true q is = absurd cc
@@ -151,11 +144,11 @@ module _ (waits : Bool) (v : View) (d g : Device) (step : IsInStep waits v d) wh
       ≡ on_monitor_side (view_wrote (if ignored then Ignored else Command x)
       (if ignored then v.file else stored reg.Status x v.file) g.sectors v)
       (acknowledged (v.file.pending && not ignored) d) g
-  command-monitored x true = ap (λ b. on_monitor_side v (acknowledged b d) g) (sym (and_false v.file.pending))
+  command-monitored x true = ap (λ b. on_monitor_side v (acknowledged b d) g) (sym (and-false v.file.pending))
   command-monitored x false =
       let f = in_hand x g.sectors (stored reg.Status x v.file) in
       ended-line v d g f v.file.pending refl refl step.line_same
-      ∙ ap (λ b. on_monitor_side (view_with_file f v) (acknowledged b d) g) (sym (and_true v.file.pending))
+      ∙ ap (λ b. on_monitor_side (view_with_file f v) (acknowledged b d) g) (sym (and-true v.file.pending))
 
   -- a write of Device Control that begins no reset
   control-monitored : (x : ℕ) (needed : Bool) → (v.file.pending || waits) ≡ needed

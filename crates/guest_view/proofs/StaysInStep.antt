@@ -1,5 +1,6 @@
 -- An access leaves the lines of view and drive the same, and their interrupts in step.
 use Rattle.std.proofs.Common.{◌≡◌, ℕ, Bool, true, false, not, ◌&&◌, ◌||◌, if◌then◌else◌, bit_and, refl, sym, ap, ◌∙◌, subst}
+use Rattle.std.proofs.Math.Bool.{and-false, and-true}
 use Rattle.ata_taskfile.specs.declared.Reg.{Reg}
 use Rattle.ata_taskfile.specs.declared.Reg.TheVariants as reg
 use Rattle.ata_taskfile.specs.declared.Access.{Access}
@@ -15,7 +16,7 @@ use Rattle.port_lease.specs.declared.view.View.{View}
 use Rattle.guest_view.specs.Seen.{IsInStep}
 use Rattle.guest_view.specs.View.{view_wrote, view_after, is_reset}
 use Rattle.guest_view.specs.Drive.{acknowledged, nien_written, drive_after, drive_after_read, drive_after_write}
-use Rattle.guest_view.proofs.OneDevice.{and_false, and_true, or_false, none_high, same_line, same_nien, nien_reached}
+use Rattle.guest_view.proofs.OneDevice.{or_false, none_high, same_line, same_nien, nien_reached}
 
 module _ (waits : Bool) (v : View) (d : Device) (n : ℕ) (step : IsInStep waits v d) where
   -- the interrupt is acknowledged in the view, and in the drive where one pends for the guest
@@ -55,11 +56,11 @@ module _ (waits : Bool) (v : View) (d : Device) (n : ℕ) (step : IsInStep waits
   step-command : (x : ℕ) (ignored : Bool)
       → IsInStep waits (view_wrote (if ignored then Ignored else Command x)
       (if ignored then v.file else stored reg.Status x v.file) n v) (acknowledged (v.file.pending && not ignored) d)
-  step-command x true = subst (λ b. IsInStep waits v (acknowledged b d)) (sym (and_false v.file.pending)) step
+  step-command x true = subst (λ b. IsInStep waits v (acknowledged b d)) (sym (and-false v.file.pending)) step
   step-command x false =
       let f = in_hand x n (stored reg.Status x v.file) in
       subst (λ b. IsInStep waits (record { file = f; bus = v.bus }) (acknowledged b d))
-      (sym (and_true v.file.pending)) (step-ended f v.bus v.file.pending refl refl)
+      (sym (and-true v.file.pending)) (step-ended f v.bus v.file.pending refl refl)
 
   step-control : (x : ℕ) (needed : Bool) → (v.file.pending || waits) ≡ needed
       → IsInStep waits (record { file = record v.file { control = bit_and x 134 }; bus = v.bus })

@@ -11,7 +11,7 @@ ghost use Rattle.ata_taskfile.specs.declared.Taken.TheVariants.{Good, Bad};
 ghost use Rattle.ata_taskfile.specs.Access.{accessed};
 ghost use Rattle.ata_taskfile.specs.Data.{is_wanted, gives_words, moves_by_bus};
 ghost use Rattle.ata_taskfile.specs.Device.{Device, with_bus};
-ghost use Rattle.ata_taskfile.specs.Lawful.{is_in_reset, is_just_taken, moves_nothing};
+ghost use Rattle.ata_taskfile.specs.Lawful.{HasTwoBytes, has_order, is_in_reset, is_just_taken, moves_nothing};
 ghost use Rattle.ata_taskfile.specs.Order.{inputs, order_of, taken};
 ghost use Rattle.ata_taskfile.specs.TaskFile.{holds_reset, masks_line};
 ghost use Rattle.dummy_read.specs.Flight.{IsInFlight};
@@ -21,7 +21,8 @@ ghost use Rattle.plain_drive.specs.Change.{cells_after, change_without_data};
 ghost use Rattle.plain_drive.specs.Plain.{Plain, with_block, with_cells};
 ghost use Rattle.plain_drive.specs.Step.{acts, step_made, words_due};
 ghost use Rattle.port_lease.specs.declared.view.View.{View as ViewOf};
-ghost use Rattle.port_lease.specs.View.{is_command};
+ghost use Rattle.port_lease.specs.View.{IsLawfulView, is_command};
+ghost use Rattle.port_lease.specs.Free.{shows_rest};
 ghost use Rattle.guest_view.specs.Seen.{on_monitor_side, drive_on_monitor_side, IsInStep};
 ghost use Rattle.guest_view.specs.View.{view_after, takes_command, byte_written, is_reset};
 ghost use Rattle.guest_view.specs.Drive.{drive_after, LeavesWork};
@@ -44,6 +45,12 @@ pub fn accesses_are_the_guests()
 pub fn views_stay_lawful()
     ensures { (a : AccessOf) (v : ViewOf) (sectors : ℕ) →
         FitsView v sectors → FitsView (view_after a sectors v) sectors }
+{}
+
+/// A lawful view without a command fits every drive, as at power-on and after a take.
+pub fn views_without_a_command_fit()
+    ensures { (v : ViewOf) (sectors : ℕ) → IsLawfulView v → HasTwoBytes v.file
+        → has_order v.file.phase ≡ false → FitsView v sectors }
 {}
 
 /// The end of the view's reset is a good step of the drive that the guest sees, where the drive's line goes as the
@@ -116,12 +123,14 @@ pub fn failures_are_the_guests()
 {}
 
 /// An access leaves the drive's own work as it is: of the drive it changes Device Control, whether an interrupt pends,
-/// and the bus master's error and interrupt bit at most. Where nothing pends for the guest, an own command runs on, of
+/// and the bus master's error and interrupt bit at most, so it shows that it rests where it did. Where nothing pends for the guest, an own command runs on, of
 /// whose drive the bus master alone changes; a dummy read that wasn't cancelled stays in flight; and nothing comes to
 /// pend for the guest.
 pub fn accesses_leave_the_drives_work()
     ensures left { (waits : Bool) (v : ViewOf) (a : AccessOf) (d : Device) →
         LeavesWork d (drive_after waits v a d) }
+    ensures rests { (waits : Bool) (v : ViewOf) (a : AccessOf) (d : Device) →
+        shows_rest (drive_after waits v a d).file ≡ shows_rest d.file }
     ensures runs { (job : JobOf) (done : ℕ) (v : ViewOf) (a : AccessOf) (d : Device) →
         v.file.pending ≡ false → IsRunning job done d
         → IsRunning job done (drive_after false v a d) }

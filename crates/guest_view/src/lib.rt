@@ -20,6 +20,6 @@ pub use laws::{
     accesses_are_the_guests, accesses_keep_what_is_alike, accesses_leave_the_drives_work,
     ended_resets_are_the_guests, ends_are_the_guests, failures_are_the_guests,
     offered_blocks_are_the_guests, refusals_are_the_guests, taken_commands_are_in_hand,
-    views_stay_lawful,
+    views_stay_lawful, views_without_a_command_fit,
 };
 pub use steps::{end_reset, fail, finish, offer, refuse};
