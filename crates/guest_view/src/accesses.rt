@@ -44,6 +44,11 @@ pub fn access<P: Ports>(
     ensures drive { P.device ports.new
         ≡ drive_after waits (view_held side.old) access.now (P.device ports.old) }
     ensures own { has_own side.new ≡ has_own side.old }
+
+    // To the guest this side is one device, on a drive of so many sectors, whatever its block and its sectors hold.
+    ensures after { (g : Device) → g.sectors ≡ sectors
+        → accessed access.now (on_monitor_side (view_held side.old) (P.device ports.old) g)
+        ≡ on_monitor_side (view_held side.new) (P.device ports.new) g }
     ensures fits { FitsView (view_held side.new) sectors }
     ensures step { IsInStep waits (view_held side.new) (P.device ports.new) }
     ensures rest { P.rest ports.new ≡ P.rest ports.old }

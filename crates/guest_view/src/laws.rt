@@ -123,9 +123,9 @@ pub fn failures_are_the_guests()
 {}
 
 /// An access leaves the drive's own work as it is: of the drive it changes Device Control, whether an interrupt pends,
-/// and the bus master's error and interrupt bit at most, so it shows that it rests where it did. Where nothing pends for the guest, an own command runs on, of
-/// whose drive the bus master alone changes; a dummy read that wasn't cancelled stays in flight; and nothing comes to
-/// pend for the guest.
+/// and the bus master's error and interrupt bit at most, so it shows that it rests where it did. Where nothing pends
+/// for the guest, an own command runs on, of whose drive the bus master alone changes; a dummy read that wasn't
+/// cancelled stays in flight; and nothing comes to pend for the guest.
 pub fn accesses_leave_the_drives_work()
     ensures left { (waits : Bool) (v : ViewOf) (a : AccessOf) (d : Device) →
         LeavesWork d (drive_after waits v a d) }
