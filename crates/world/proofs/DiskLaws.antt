@@ -1,5 +1,5 @@
 -- The disk as it is read sector by sector, and out as it is written in pieces.
-use Rattle.std.proofs.Common.{◌≡◌, ◌≤◌, ◌<◌, ◌++◌, ℕ, List, [], ◌∷◌, length, take, drop, Option, Some, None, Result, Ok, Err, OnOk, subst, arith, sym, ap, ◌∙◌, suc, ◌+◌, ◌*◌, append_assoc, append-nil}
+use Rattle.std.proofs.Common.{◌≡◌, ◌≤◌, ◌<◌, ◌++◌, ℕ, List, [], ◌∷◌, length, take, drop, Option, Some, None, Result, Ok, Err, OnOk, subst, sym, ap, ◌∙◌, ◌+◌, ◌*◌, append_assoc, append-nil}
 use Rattle.std.specs.List.{concat}
 use Rattle.std.specs.Prelude.{slice_set, slice_index_or}
 use Rattle.std.proofs.lemmas.List.{take_all, take_more, take_more_set}
@@ -13,6 +13,7 @@ use Rattle.plain_drive.specs.Plain.{sectors_in}
 use Rattle.plain_drive.proofs.Sectors.{sectors_in-more}
 use Rattle.block_writes.specs.Kept.{KeepsFilesBut, KeepsLooked}
 use Rattle.block_writes.specs.Waiting.{KeepsWaiting, Waits}
+use Rattle.block_writes.proofs.WaitingLaws.{Waits-appended}
 
 -- so many sectors of the disk were read into a store, and nothing else happened
 pub record ReadsFront (old new : Outside) (size : ℕ) (list : List (List ℕ)) (sectors : ℕ) : Type 0 where
@@ -56,26 +57,12 @@ WritesFront-more old now new before mid after waiting more i below so counts fil
       (waits (text ++ concat (take i before.kept.durable)) (so.waits text was));
 }
 
--- what is told once more of this text, whatever was told before, has it behind what was told
-becomes_longer : (old new : Option (List ℕ)) (more rest : List ℕ) → rest ≡ []
-    → ((text : List ℕ) → IfTold old (λ written. written ++ [] ≡ text)
-    → IfTold new (λ written. written ++ rest ≡ text ++ more))
-    → Becomes (λ before after. after ≡ before ++ more) old new
-becomes_longer None None more rest none waits = tt
-becomes_longer (Some before) None more rest none waits = tt
-becomes_longer None (Some after) more rest none waits = absurd (no_two more (sym (waits [] tt) ∙ waits (0 ∷ []) tt))
-  where
-    no_two : (xs : List ℕ) → ¬ (xs ≡ 0 ∷ xs)
-    no_two xs e = let longer : length xs ≡ suc (length xs) = ap length e in absurd (omega (longer, arith))
-becomes_longer (Some before) (Some after) more rest none waits =
-    sym (append-nil after) ∙ ap (λ xs. after ++ xs) (sym none) ∙ waits before (append-nil before)
-
 -- nothing waits any more: Out holds all sectors behind what it held
 module _ (old now new : Outside) (before mid : Physical) (waiting rest : List ℕ) (i : ℕ)
     (all : length before.kept.durable ≤ i) (so : WritesFront old now before mid waiting i) where
   WritesFront-all : rest ≡ [] → KeepsWaiting Out waiting rest now new
       → Becomes (λ before_run after. after ≡ before_run ++ concat before.kept.durable) (old.told Out) (new.told Out)
-  WritesFront-all none waits = becomes_longer (old.told Out) (new.told Out) (concat before.kept.durable) rest none
+  WritesFront-all none waits = Waits-appended Out old new (concat before.kept.durable) rest none
       (λ text was. subst (λ list. Waits Out rest new (text ++ concat list)) (take_all i before.kept.durable all)
       (waits (text ++ concat (take i before.kept.durable)) (so.waits text was)))
 
