@@ -1,11 +1,11 @@
 //! The program `bmcast`: a run over an image, a disk and a schedule of events, by its words.
 //!
-//! Start with `bmcast`, the call that the program makes, and `run`, its steps in order. `specs/Run.antt` says what
-//! is promised of a run that is done or ends at a bad line, and `specs/Status.antt` what each status owes;
-//! `specs/Lib.antt` names these and the others that the clauses of `bmcast` cite, and then the inner ones. Of those
-//! `specs/Stages.antt` has the stages of a run with the stops of each, and `specs/Streams.antt` and
-//! `specs/Played.antt` what the reading of a schedule and the writing of a report keep. `docs/proofs.md` says the same
-//! in words.
+//! Start with `bmcast`, the call that the program makes, and `run`, its steps in order; what an event does is the crate
+//! `world`'s. `specs/Run.antt` says what is promised of a run that is done or ends at a bad line, and
+//! `specs/Status.antt` what each status owes; `specs/Lib.antt` names these and the others that the clauses of `bmcast`
+//! cite, and then the inner ones. Of those `specs/Stages.antt` has the stages of a run with the stops of each, and
+//! `specs/Streams.antt` and `specs/Played.antt` what the reading of a schedule and the writing of a report keep.
+//! `docs/proofs.md` says the same in words.
 //!
 //! The tests are those of the crate `worked_runs`.
 
@@ -80,8 +80,8 @@ impl Status {
 /// Does what the words after the program's name say, over the files of `host`. Where the status isn't Done, one
 /// line on Console says it.
 ///
-/// At Done the schedule was read to its end, the report is that of a plain drive that began with the disk, and out
-/// holds what a power cut would leave. The first refusal is the answer: the words (Usage), the files (ReadFault), the
+/// At Done the schedule was read to its end, the report is that of a plain drive that began with the disk, the network
+/// is the one that schedule, report and image make, and out holds what a power cut would leave. The first refusal is the answer: the words (Usage), the files (ReadFault), the
 /// lengths (Unsuitable), an image that isn't empty (NotYet), the schedule's first line that isn't one (BadLine). A
 /// fault comes only where that role's count of faults rose.
 pub fn bmcast<H: Host>(alloc: Global, words: &[String], host: &mut H) -> Status

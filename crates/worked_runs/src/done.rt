@@ -7,19 +7,22 @@ use schedule_text::LineFault;
 use std::alloc::Global;
 use std::test::Fail;
 
-// By hand: the last line of a report has the number of the line `end`. A remark, an empty line and a step without an
-// effect count as lines and give none; the first step ends the reset, and a second one has nothing to do.
+// By hand: the last line of a report has the number of the line `end`. A remark, an empty line, a step without an
+// effect and, while there is no monitor, a turn, a tick and each event of the network count as lines and give none; the
+// first step ends the reset, and a second one has nothing to do.
 #[test]
 fn short_schedules_and_their_reports(rt: HostRuntime) -> Result<(), Fail> {
     let mut longest = [b'#'; 4101];
     longest[4096..].copy_from_slice(b"\nend\n");
-    let cases: [(&[u8], &[u8]); 6] = [
+    let network = b"t\nk\nn s 0\nn c 63 keep\nn ls 0\nn lc 1\nn x ff\nn y 00\nend\n";
+    let cases: [(&[u8], &[u8]); 7] = [
         (b"end\n", b"end 1\n"),
         (b"end", b"end 1\n"),
         (b"# note\n\nend\n", b"end 3\n"),
         (b"d ok\nd ok\nend\n", b"1 p go 1\nend 3\n"),
         (b"g r8 st\ng line\nend\n", b"1 o 80\n2 o 00\nend 3\n"),
         (&longest, b"end 2\n"),
+        (network, b"end 9\n"),
     ];
     for (schedule, report) in cases {
         check_done(&rt, rt.alloc(), schedule, report, &DISK)?;

@@ -103,13 +103,13 @@ fn lengths_of_image_and_disk(rt: HostRuntime) -> Result<(), Fail> {
 
 // A schedule, the line that is refused and why, the report, and how the line on Console goes on. The report has the
 // lines of the events before, and no last line.
-const LINES: [(&[u8], u32, LineFault, &[u8], &[u8]); 14] = [
+const LINES: [(&[u8], u32, LineFault, &[u8], &[u8]); 16] = [
     (b"", 1, NoEnd, b"", b"1: NoEnd"),
     (b"d ok\n", 2, NoEnd, b"1 p go 1\n", b"2: NoEnd"),
     (b"d ok", 2, NoEnd, b"1 p go 1\n", b"2: NoEnd"),
     (b"g rd 257\nend\n", 1, Number, b"", b"1: Number"),
     (b"g r8 xx\nend\n", 1, Form, b"", b"1: Form"),
-    (b"# note\nd ok\n\nt\n", 4, Form, b"2 p go 1\n", b"4: Form"),
+    (b"# note\nd ok\n\ntt\n", 4, Form, b"2 p go 1\n", b"4: Form"),
     (b"end\nt\n", 2, Trailing, b"", b"2: Trailing"),
     (b"end\nt", 2, Trailing, b"", b"2: Trailing"),
     (b"d ok\nend\n\n", 3, Trailing, b"1 p go 1\n", b"3: Trailing"),
@@ -118,6 +118,8 @@ const LINES: [(&[u8], u32, LineFault, &[u8], &[u8]); 14] = [
     (b"g w32 0000100\nend\n", 1, Form, b"", b"1: Form"),
     (b"g mr 00000000 2001\nend\n", 1, Number, b"", b"1: Number"),
     (b"d put 64\nend\n", 1, Number, b"", b"1: Number"),
+    (b"n c 64\nend\n", 1, Number, b"", b"1: Number"),
+    (b"n s 0 kept\nend\n", 1, Form, b"", b"1: Form"),
 ];
 
 #[test]
