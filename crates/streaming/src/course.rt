@@ -6,8 +6,8 @@ ghost use Rattle.plain_run.specs.Entry.{Entry};
 ghost use Rattle.streaming.specs.Network.{IsCourse, NetworkEvent};
 ghost use Rattle.streaming.specs.Lists.{HoldsReplies, HoldsRequests};
 
-/// Schedule, report and image have one course of the network: where it ends, and how many sectors of the image went
-/// into replies.
+/// Schedule, report and a told image have one course of the network at most: where it ends, and how many sectors of the
+/// image went into replies.
 pub fn a_report_has_one_course()
     ensures network { (sectors : ℕ) (image : List ℕ) (entries : List Entry) (one other : Wire)
         (m n : ℕ) → IsCourse sectors (Some image) entries one m
@@ -26,7 +26,8 @@ pub fn no_list_outgrows_its_room()
         (count : ℕ) → IsCourse sectors told entries wire count → FitsRings wire }
 {}
 
-/// One list has requests alone, and the other replies of the server alone: no stray frame joins either.
+/// One list has requests alone, and the other, over a told image, replies of the server alone: no stray frame joins
+/// either.
 pub fn each_list_holds_its_own()
     ensures requests_kept { (sectors : ℕ) (told : Option (List ℕ)) (old new : Wire)
         (entry : Entry) (count : ℕ) → NetworkEvent sectors told old entry new count
