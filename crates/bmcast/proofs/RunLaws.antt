@@ -116,21 +116,23 @@ pub record IsStarted (memory image : ℕ) (o : Outside) (before : Scene) : Type 
   pub began : before ≡ started memory image before.drive.kept.durable
   pub sectors : All (λ sector. length sector ≡ 512) before.drive.kept.durable
   pub disk : IfTold (o.told Disk) (λ disk. before.drive.kept.durable ≡ sectors_of_disk disk)
+  pub empty : image ≡ 0
   pub image_length : HasLength Image o (512 * image)
 
 -- the world was started over the files of this area
 pub started_over : (memory : ℕ) (area : Area) (o1 o2 : Outside) (before : Scene)
-    → LeavesFiles status.Done o1 o2 → IsAreaOf area o1
+    → LeavesFiles status.Done o1 o2 → IsAreaOf area o1 → area.image ≡ 0
     → before ≡ started memory area.image before.drive.kept.durable
     → All (λ sector. length sector ≡ 512) before.drive.kept.durable
     → IfTold (o2.told Disk) (λ disk. before.drive.kept.durable ≡ sectors_in area.sectors disk)
     → IsStarted memory area.image o2 before
-started_over memory area o1 o2 before left is began sectors disk = record {
+started_over memory area o1 o2 before left is empty began sectors disk = record {
   began = began;
   sectors = sectors;
   disk = IfTold-both (o2.told Disk) _ _ _
       (λ bytes long made. made ∙ ap (λ n. sectors_in n bytes) (count bytes long))
       (IfTold-same _ (sym (left Disk read_disk)) is.disk) disk;
+  empty = empty;
   image_length = IfTold-same _ (sym (left Image read_image)) is.image;
 }
   where
@@ -188,6 +190,7 @@ module _ (memory image : ℕ) (o1 o2 o3 : Outside) (before after : Scene) (entri
         read = IfTold-same _ (left Disk read_disk) was.disk;
         run = plain.run;
         image = image;
+        empty = was.empty;
         image_length = IfTold-same _ (left Image read_image) was.image_length;
         wire = after.wire;
         count = count;
@@ -224,12 +227,13 @@ done o1 o2 o3 o4 o5 before after memory image left loaded played written unlooke
 
 -- the same up to a bad line
 pub bad_line : (o1 o2 o3 o4 : Outside) (before after : Scene) (memory image number : ℕ) (kind : LineFault)
-    → LeavesFiles status.Done o1 o2 → SameBytes o2 o3 → IsStarted memory image o2 before
+    → LeavesFiles status.Done o1 o2 → IsOpened o2 → SameBytes o2 o3 → KeepsFiles o3 o4 → IsStarted memory image o2 before
     → after.image ≡ before.image → IsStopped o3 o4 before after number kind → BadLineRun memory o1 o4 number kind
-bad_line o1 o2 o3 o4 before after memory image number kind left loaded was stays told = record {
+bad_line o1 o2 o3 o4 before after memory image number kind left opened loaded played was stays told = record {
   was = was_run memory image o1 o2 o3 before after told.entries told.count left loaded was told.run stays told.course;
   schedule = IfTold-same _ (loaded.told Schedule ∙ left Schedule read_schedule) told.schedule;
   report = told.report;
+  out = IfTold-same _ (sym (played Out (λ e. cc) ∙ loaded.told Out)) opened.out;
 }
 
 -- the same from the start of the run, when no file had changed and nothing was looked at
@@ -242,6 +246,7 @@ was_run_from memory o0 o1 kept was = record {
   read = IfTold-same _ (kept Disk) was.read;
   run = was.run;
   image = was.image;
+  empty = was.empty;
   image_length = IfTold-same _ (kept Image) was.image_length;
   wire = was.wire;
   count = was.count;
@@ -267,6 +272,7 @@ bad_line_since memory o0 o1 o4 number kind kept bad = record {
   was = was_run_from memory o0 o1 kept bad.was;
   schedule = IfTold-same _ (kept Schedule) bad.schedule;
   report = bad.report;
+  out = bad.out;
 }
 
 -- the same after the line on Console
@@ -280,5 +286,6 @@ bad_line_told words o0 o4 o5 number kind kept bad = record {
     was = bad.holds.was;
     schedule = bad.holds.schedule;
     report = IfTold-same _ (sym (kept.told Report (λ e. cc))) bad.holds.report;
+    out = IfTold-same _ (sym (kept.told Out (λ e. cc))) bad.holds.out;
   };
 }

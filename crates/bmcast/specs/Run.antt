@@ -42,9 +42,10 @@ pub record WasRun (memory : ℕ) (old : Outside) : Type 0 where
   -- commands of the `c` lines, and after a cut the plain drive goes on with the physical one's
   -- durable sectors
   pub run : IsDirectRun (drives_over memory sectors) entries end
-  -- there are the image's count of sectors, the network at the end, and how many sectors of the image went into
-  -- replies, once for each; event by event the network is the definition's, over the image where it is told
+  -- there are the image's count of sectors, none as yet, the network that the definition makes of these entries, which
+  -- no outside shows as yet, and how many sectors of the image went into replies, once for each
   pub image : ℕ
+  pub empty : image ≡ 0
   pub image_length : HasLength Image old (SECTOR_BYTES * image)
   pub wire : Wire
   pub count : ℕ
@@ -74,8 +75,9 @@ pub record BadLineRun (memory : ℕ) (old new : Outside) (number : ℕ)
   -- the lines before it are those of these events, and it is the first that isn't one, for this fault
   pub schedule : IfTold (old.told Schedule)
       (λ text. FailsAt text (events_of was.entries) number kind)
-  -- the report is the text of the history, without an end
+  -- the report is the text of the history, without an end, and out is as it was opened
   pub report : IfTold (new.told Report) (λ text. text ≡ history_text was.entries)
+  pub out : IfTold (new.told Out) (λ bytes. bytes ≡ [])
 
 -- the run that the words choose is done
 abbrev pub RunIsDone : List (List ℕ) → Outside → Outside → Type 0

@@ -13,7 +13,7 @@ returns-in-Ok-report_run-clause-done g c = on_ok_weaker c.end_run.result
     c.in-Ok-start.world c.report_run.new.world c.args.options.now.memory c.args.setup.now.area.image
     c.in-Ok.ensures.files c.in-Ok-start.ensures.bytes c.in-Ok-report_run.ensures.files c.end_run.ensures.files
     (c.in-Ok-start.ensures.looked ∙ c.in-Ok.ensures.looked) c.end_run.ensures.looked
-    (started_over _ c.args.setup.now.area _ _ c.in-Ok-start.world c.in-Ok.ensures.files c.requires.area
+    (started_over _ c.args.setup.now.area _ _ c.in-Ok-start.world c.in-Ok.ensures.files c.requires.area c.requires.empty
     c.in-Ok-start.ensures.began c.in-Ok-start.ensures.sectors c.in-Ok-start.ensures.disk)
     c.in-Ok-report_run.ensures.image c.in-Ok-report_run.ensures.reported out)
     c.end_run.ensures.out
@@ -25,8 +25,8 @@ returns-in-Err-report_run-clause-bad g c =
     bad_line (g.H.Host.outside c.args.host.now) (g.H.Host.outside c.begin_files.new.host)
     (g.H.Host.outside c.start.new.host) (g.H.Host.outside c.report_run.new.host)
     c.in-Ok-start.world c.report_run.new.world c.args.options.now.memory c.args.setup.now.area.image number kind
-    c.in-Ok.ensures.files c.in-Ok-start.ensures.bytes
-    (started_over _ c.args.setup.now.area _ _ c.in-Ok-start.world c.in-Ok.ensures.files c.requires.area
+    c.in-Ok.ensures.files c.in-Ok.ensures.ready c.in-Ok-start.ensures.bytes c.in-Err-report_run.ensures.files
+    (started_over _ c.args.setup.now.area _ _ c.in-Ok-start.world c.in-Ok.ensures.files c.requires.area c.requires.empty
     c.in-Ok-start.ensures.began c.in-Ok-start.ensures.sectors c.in-Ok-start.ensures.disk)
     c.in-Err-report_run.ensures.image stopped)
     c.in-Err-report_run.ensures.bad
