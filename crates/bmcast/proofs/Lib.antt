@@ -3,6 +3,7 @@ pub mod Reading
 pub mod Reporting
 pub mod Lines
 pub mod StopLaws
+pub mod Looks
 pub mod PlayedLaws
 pub mod RunLaws
 pub mod ConsoleLaws

@@ -12,7 +12,6 @@ use Rattle.schedule_text.specs.Line.{Says}
 use Rattle.schedule_text.specs.Schedule.{HasNoEnd, HasRead}
 use Rattle.schedule_text.specs.BadLine.{LineFails, FailsAt}
 use Rattle.plain_run.specs.Entry.{Entry, entry_of, events_of, history_text, items_text}
-use Rattle.image_server.specs.Serving.{LooksAtMost}
 use Rattle.streaming.specs.Network.{IsCourse}
 use Rattle.streaming.specs.World.{Scene, WorldEvent}
 use Rattle.block_writes.specs.Kept.{KeepsLooked}
@@ -24,21 +23,8 @@ use Rattle.bmcast.specs.Kept.{KeepsFiles}
 use Rattle.bmcast.specs.Streams.{unread, Said, KeepsSaid, Reports}
 use Rattle.bmcast.specs.Played.{Begun, HasPlayed, HasTaken, HasDone, HasDoneEnd, HasEnded, IsNextLine, IsPlayed, Leads, HasFailed}
 use Rattle.block_writes.proofs.Told.{IfTold-both, IfTold-weaker, IfTold-same}
+use Rattle.bmcast.proofs.Looks.{looks_after, looks_on}
 use Rattle.bmcast.proofs.Lines.{read_next, fails_next}
-
--- what was looked at so far, when no more is
-pub looks_on : (n : ℕ) (a b c : Outside) → KeepsLooked b c → LooksAtMost n a b → LooksAtMost n a c
-looks_on n a b c kept so = record {
-  most = rw kept so.most;
-  none = λ e. kept ∙ so.none e;
-}
-
--- one look after the other
-looks_after : (m n : ℕ) (a b c : Outside) → LooksAtMost m a b → LooksAtMost n b c → LooksAtMost (m + n) a c
-looks_after m n a b c so more = record {
-  most = let first = so.most in let then = more.most in omega arith;
-  none = λ e. more.none (omega arith) ∙ so.none (omega arith);
-}
 
 -- what was reported stays reported, when nothing else was
 still_played : (start : Begun) (from to : Streams) (old new : Outside) (now : Scene) (entries : List Entry)

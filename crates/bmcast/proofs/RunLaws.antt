@@ -1,5 +1,5 @@
 -- A whole run, from its steps.
-use Rattle.std.proofs.Common.{◌≡◌, ◌+◌, ◌*◌, ◌/◌, ◌++◌, ◌≤◌, ℕ, List, [], length, take, All, replicate, refl, sym, ◌∙◌, ap, subst, inl, arith, length-take}
+use Rattle.std.proofs.Common.{◌≡◌, ◌*◌, ◌/◌, ◌++◌, ◌≤◌, ℕ, List, [], length, take, All, replicate, refl, sym, ◌∙◌, ap, subst, inl, arith, length-take}
 use Rattle.std.proofs.Math.ListN.{drop_of_length-le}
 use Rattle.bm_host.specs.declared.Role.TheVariants.{Image, Disk, Schedule, Report, Out, Console}
 use Rattle.bm_host.specs.Outside.{Outside, IfTold, SameBytes, SameElsewhere}
@@ -8,7 +8,6 @@ use Rattle.fill_bitmap.specs.declared.area.Area.{Area}
 use Rattle.plain_drive.specs.Physical.{Physical}
 use Rattle.plain_drive.specs.Plain.{sectors_in}
 use Rattle.aoe_net.specs.Wire.{nothing_sent}
-use Rattle.image_server.specs.Serving.{LooksAtMost}
 use Rattle.streaming.specs.Network.{IsCourse}
 use Rattle.streaming.specs.World.{Scene, drive_over, started}
 use Rattle.block_writes.specs.Kept.{KeepsFilesBut, KeepsLooked}
@@ -28,7 +27,7 @@ use Rattle.schedule_text.specs.declared.LineFault.{LineFault}
 use Rattle.bmcast.specs.Files.{IsLeft, IsOpened, LeavesFiles}
 use Rattle.bmcast.specs.Kept.{KeepsAllFiles, KeepsFiles}
 use Rattle.bmcast.specs.Lengths.{HasLength, IsAreaOf}
-use Rattle.bmcast.proofs.PlayedLaws.{looks_on}
+use Rattle.bmcast.proofs.Looks.{looks_on, looks_since}
 use Rattle.bmcast.specs.declared.Status.TheVariants as status
 use Rattle.block_writes.proofs.Told.{IfTold-weaker, IfTold-all, IfTold-both, IfTold-same}
 use Rattle.block_writes.proofs.WaitingLaws.{Waits-none, Waits-all}
@@ -138,13 +137,6 @@ started_over memory area o1 o2 before left is empty began sectors disk = record 
   where
     count : (bytes : List ℕ) → length bytes ≡ 512 * area.sectors → area.sectors ≡ length bytes / 512
     count bytes long = omega (long, arith)
-
--- what was looked at, when nothing was before
-looks_since : (n : ℕ) (a b c : Outside) → KeepsLooked a b → LooksAtMost n b c → LooksAtMost n a c
-looks_since n a b c kept so = record {
-  most = subst (λ k. c.looked ≤ k + 512 * n) kept so.most;
-  none = λ e. so.none e ∙ kept;
-}
 
 -- the plain drive that began with these sectors has the run of the physical one
 beside : (memory : ℕ) (before after : Physical) (entries : List Entry) → before ≡ drive_over memory before.kept.durable
