@@ -219,8 +219,8 @@ done o1 o2 o3 o4 o5 before after memory image left loaded played written unlooke
 
 -- the same up to a bad line
 pub bad_line : (o1 o2 o3 o4 : Outside) (before after : Scene) (memory image number : ℕ) (kind : LineFault)
-    → LeavesFiles status.Done o1 o2 → IsOpened o2 → SameBytes o2 o3 → KeepsFiles o3 o4 → IsStarted memory image o2 before
-    → after.image ≡ before.image → IsStopped o3 o4 before after number kind → BadLineRun memory o1 o4 number kind
+    → LeavesFiles status.Done o1 o2 → IsOpened o2 → SameBytes o2 o3 → KeepsFiles o3 o4
+    → IsStarted memory image o2 before → after.image ≡ before.image → IsStopped o3 o4 before after number kind → BadLineRun memory o1 o4 number kind
 bad_line o1 o2 o3 o4 before after memory image number kind left opened loaded played was stays told = record {
   was = was_run memory image o1 o2 o3 before after told.entries told.count left loaded was told.run stays told.course;
   schedule = IfTold-same _ (loaded.told Schedule ∙ left Schedule read_schedule) told.schedule;

@@ -1,8 +1,8 @@
 //! Whether the monitor may leave: once every block is stored, and where the guest would see nothing of its going.
 //!
-//! Start with `leaving`. `specs/Leaving.antt` says when each answer comes, a row a line, and `laws` what the order of its
-//! rows gives: a monitor that is told to leave isn't refused. `docs/monitor.md` has the same as a table. No call here
-//! reaches a device.
+//! Start with `leaving`. `specs/Leaving.antt` says when each answer comes, a row a line, and `laws` what the order of
+//! its rows gives: a monitor that is told to leave isn't refused. `docs/monitor.md` has the same as a table. No call
+//! here reaches a device.
 //!
 //! The tests are in `src/tests.rt`.
 

@@ -18,7 +18,8 @@ pub fn the_gate_names_the_lowest_empty_block()
         ↔ IsLowestEmpty area sets.filled request.first request.count b }
 {}
 
-/// A write that has to be filled first doesn't pass, and one below the reserved sectors passes exactly where it is Local.
+/// A write that has to be filled first doesn't pass, and one below the reserved sectors passes exactly where it is
+/// Local.
 pub fn writes_pass_exactly_where_they_are_local()
     ensures fills { (request : Request) (area : Area) (sets : Sets) →
         class_of_request request area sets ≡ FillFirst → gate_of request area sets ≢ Pass }
