@@ -38,6 +38,11 @@ const IDENTIFY: &str =
 const IDENTIFIED: &str =
     "020000000001 020000000002 88a2 18 00 0001 01 00 00000003 00 00 00 50 000000000000 0000";
 
+// A header of version 2, which is refused: flags R and E, and error 5.
+const VERSION_2: &str = "020000000002 020000000001 88a2 20 00 0001 01 00 00000004";
+
+const UNSUPPORTED: &str = "020000000001 020000000002 88a2 1c 05 0001 01 00 00000004";
+
 // A frame of another type.
 const OTHER: &str = "020000000002 020000000001 0800 4500 0014";
 
@@ -84,7 +89,7 @@ fn assert_going(
 #[test]
 fn events_of_the_network(rt: HostRuntime) -> Result<(), Fail> {
     let alloc = rt.alloc();
-    let steps: [(Event, &[&str], &[&str]); 16] = [
+    let steps: [(Event, &[&str], &[&str]); 20] = [
         // A request that is kept is served, and one that isn't leaves.
         (
             Event::Deliver(Way::ToServer, 1, true),
@@ -147,11 +152,33 @@ fn events_of_the_network(rt: HostRuntime) -> Result<(), Fail> {
             &[REFUSED, IDENTIFIED],
         ),
         (Event::Lose(Way::ToClient, 0), &[READ], &[IDENTIFIED]),
+        // Another version is refused, and to a reply the server is silent.
+        (
+            Event::Stray(Way::ToServer, frame(alloc, VERSION_2)?),
+            &[READ],
+            &[IDENTIFIED, UNSUPPORTED],
+        ),
+        (
+            Event::Stray(Way::ToServer, frame(alloc, CONFIGURED)?),
+            &[READ],
+            &[IDENTIFIED, UNSUPPORTED],
+        ),
+        // A request that is kept is served each time.
+        (
+            Event::Deliver(Way::ToServer, 0, true),
+            &[READ],
+            &[IDENTIFIED, UNSUPPORTED, REFUSED],
+        ),
+        (
+            Event::Lose(Way::ToClient, 1),
+            &[READ],
+            &[IDENTIFIED, REFUSED],
+        ),
         // What is no event of the network.
-        (Event::Turn, &[READ], &[IDENTIFIED]),
-        (Event::Tick, &[READ], &[IDENTIFIED]),
-        (Event::Cut, &[READ], &[IDENTIFIED]),
-        (Event::Drive(Step::Good), &[READ], &[IDENTIFIED]),
+        (Event::Turn, &[READ], &[IDENTIFIED, REFUSED]),
+        (Event::Tick, &[READ], &[IDENTIFIED, REFUSED]),
+        (Event::Cut, &[READ], &[IDENTIFIED, REFUSED]),
+        (Event::Drive(Step::Good), &[READ], &[IDENTIFIED, REFUSED]),
     ];
     let mut net = Net::new(alloc)?;
     for text in [CONFIG, READ, IDENTIFY] {
