@@ -26,6 +26,7 @@ pub struct Own {
 impl Own {
     ghost use Rattle.std.specs.Prelude.{◌≡◌, ◌<◌, ◌*◌, ◌&&◌, ℕ, List, true, false, length};
     ghost use Rattle.ata_taskfile.specs.declared.Phase.TheVariants.{Busy};
+    ghost use Rattle.ata_taskfile.specs.TaskFile.{is_at_work};
     ghost use Rattle.ata_taskfile.specs.Device.{Cell};
     ghost use Rattle.port_lease.specs.Free.{is_free};
     ghost use Rattle.port_lease.specs.Handover.{shows_well};
@@ -99,6 +100,10 @@ impl Own {
         ensures free { goes_on result ≡ false → is_free (P.device ports.new).file ≡ true }
         ensures well { result ≡ Poll.Done → shows_well (P.device ports.new).file ≡ true }
         ensures goes { goes_on result ≡ true → 0 < polls_left self.new }
+
+        // A block that went leaves the drive at work.
+        ensures works { result ≡ Poll.Moved
+            → is_at_work (P.device ports.new).file.phase ≡ true }
         ensures own { has_own side.new ≡ (goes_on result && has_own side.old) }
 
         // The guest sees nothing of it, and no sector changes but by the drive's own steps.

@@ -4,7 +4,7 @@ ghost use Rattle.std.specs.Prelude.{◌≡◌, ◌<◌, ◌≤◌, ◌*◌, ◌&
 ghost use Rattle.ata_taskfile.specs.Device.{Device, Cell};
 ghost use Rattle.ata_taskfile.specs.Accesses.{Reaches};
 ghost use Rattle.own_pio.specs.Kept.{IsDoneSoFar, Leaves};
-ghost use Rattle.ata_taskfile.specs.TaskFile.{has_bit, status};
+ghost use Rattle.ata_taskfile.specs.TaskFile.{has_bit, is_at_work, status};
 ghost use Rattle.port_lease.specs.Free.{is_free};
 ghost use Rattle.port_lease.specs.Handover.{shows_well};
 ghost use Rattle.port_lease.specs.Sides.{view_held, has_own};
@@ -62,6 +62,7 @@ pub(crate) fn poll_drive<P: Ports>(
     ensures free { goes_on result ≡ false → is_free (P.device ports.new).file ≡ true }
     ensures well { result ≡ Poll.Done → shows_well (P.device ports.new).file ≡ true }
     ensures goes { goes_on result ≡ true → 0 < left_after result left }
+    ensures works { result ≡ Poll.Moved → is_at_work (P.device ports.new).file.phase ≡ true }
     ensures kept { (start : List ℕ) (origin : List Cell) →
         IsDoneSoFar job (done_by job left) bytes.old start origin (P.device ports.old)
         → Leaves result job left bytes.new start origin (P.device ports.new) }
@@ -115,6 +116,7 @@ fn move_block<P: Ports>(job: OwnJob, left: u32, ports: &mut P, bytes: &mut [u8])
     ensures free { goes_on result ≡ false → is_free (P.device ports.new).file ≡ true }
     ensures well { result ≡ Poll.Done → shows_well (P.device ports.new).file ≡ true }
     ensures goes { goes_on result ≡ true → 0 < left_after result left }
+    ensures works { result ≡ Poll.Moved → is_at_work (P.device ports.new).file.phase ≡ true }
     ensures kept { (start : List ℕ) (origin : List Cell) →
         IsDoneSoFar job (done_by job left) bytes.old start origin (P.device ports.old)
         → Leaves result job left bytes.new start origin (P.device ports.new) }

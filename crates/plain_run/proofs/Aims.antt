@@ -30,7 +30,7 @@ use Rattle.plain_drive.specs.Plain.{Plain, with_registers}
 use Rattle.plain_drive.specs.Words.{after_words, after_written}
 use Rattle.plain_drive.specs.Step.{good_step_in, bad_step_in, step_made, proceeded, sector_given, transferred, walked, first_wanted, next_wanted, offered, ended}
 use Rattle.schedule_text.specs.declared.Item.TheVariants as item
-use Rattle.plain_run.specs.Taken.{command_item, commands_due}
+use Rattle.schedule_text.specs.Taken.{command_item, commands_due}
 use Rattle.plain_run.specs.Written.{is_outward, is_within, row_writes, writes_sectors, names_write, items_name}
 
 -- an order brings data to this sector
@@ -56,10 +56,10 @@ none_taken phase absent e = grind arith
 
 module _ (s : ℕ) where
   -- words of Data leave the order, or end it
-  read_away : (phase : Phase) → aims_in s phase ≡ false → aims_in s (phase_after_read phase) ≡ false
+  pub read_away : (phase : Phase) → aims_in s phase ≡ false → aims_in s (phase_after_read phase) ≡ false
   read_away phase away = grind arith
 
-  write_away : (phase : Phase) → aims_in s phase ≡ false → aims_in s (phase_after_write phase) ≡ false
+  pub write_away : (phase : Phase) → aims_in s phase ≡ false → aims_in s (phase_after_write phase) ≡ false
   write_away phase away = grind arith
 
   pub words_away : (n : ℕ) (d : Device) → aims_in s d.file.phase ≡ false

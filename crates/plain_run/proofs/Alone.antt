@@ -19,7 +19,7 @@ use Rattle.schedule_text.specs.declared.Item.{Item}
 use Rattle.plain_run.specs.Entry.{Entry, answer_items, is_monitors, items_due}
 use Rattle.plain_run.specs.Guest.{answer_due}
 use Rattle.plain_run.specs.Run.{DriveEvent, drive_due, plan_due, step_item}
-use Rattle.plain_run.specs.Taken.{command_item, commands_due, just_taken}
+use Rattle.schedule_text.specs.Taken.{command_item, commands_due, just_taken}
 
 -- none of these items is a monitor's
 abbrev Alone : List Item → Type 0

@@ -14,7 +14,7 @@ use Rattle.schedule_text.specs.declared.Item.{Item}
 use Rattle.schedule_text.specs.declared.Item.TheVariants as item
 use Rattle.plain_run.specs.Entry.{Entry, commands_in}
 use Rattle.plain_run.specs.Run.{DriveEvent, IsDriveRun, physical_event}
-use Rattle.plain_run.specs.Taken.{commands_due}
+use Rattle.schedule_text.specs.Taken.{commands_due}
 use Rattle.plain_run.specs.Written.{items_name, names_write, is_named}
 use Rattle.plain_run.proofs.Aims.{aims_in, read8_away, step_away, words_away, write8_away, written_away}
 use Rattle.plain_run.proofs.Told.{commands_told}
@@ -34,7 +34,7 @@ sound_run start now (entry ∷ earlier) sound (before, run, last) =
     (sound_run start before earlier sound run))
 
 -- of the items only commands name a sector
-commands_name : (s : ℕ) (items : List Item) → items_name s (commands_in items) ≡ items_name s items
+pub commands_name : (s : ℕ) (items : List Item) → items_name s (commands_in items) ≡ items_name s items
 commands_name s [] = refl
 commands_name s (item.Command byte first count ∷ items) =
     ap (λ rest. names_write s (item.Command byte first count) || rest)
@@ -59,40 +59,59 @@ event_away s one q away unnamed = away
 
 module _ (s : ℕ) (value : List ℕ) where
   -- a whole sector, and of this one no other value
-  abbrev Same : ℕ → List ℕ → Type 0
+  abbrev pub Same : ℕ → List ℕ → Type 0
   Same at found = (length found ≡ 512) × (at ≡ s → found ≡ value)
 
   -- no other value of the sector is kept, and none is on its way
-  record IsUntouched (q : Physical) : Type 0 where
-    sound : IsSound Same q
-    away : aims_in s q.file.phase ≡ false
+  pub record IsUntouched (q : Physical) : Type 0 where
+    pub sound : IsSound Same q
+    pub away : aims_in s q.file.phase ≡ false
 
-  untouched_event : (entry : Entry) (q : Physical) → DriveEvent q entry (physical_event entry.event q)
-      → items_name s entry.items ≡ false
-      → IsUntouched q → IsUntouched (physical_event entry.event q)
-  untouched_event entry q one unnamed was =
+  pub untouched_sound : (one : Event) (q : Physical) → IsUntouched q → IsSound Same (physical_event one q)
+  untouched_sound one q was =
       let elsewhere : aims_in s q.file.phase ≡ true → ⊥ = λ aims. cc (was.away, aims) in
-      let new = physical_event entry.event q in
+      event_sound Same (λ at found one. one.0) one q
+      (λ at found one. (
+        one.0,
+        λ same. absurd (elsewhere (subst (λ i. aims_in i q.file.phase ≡ true) same one.1)),
+      )) was.sound
+
+  pub untouched_event : (entry : Entry) (q new : Physical) → DriveEvent q entry new
+      → items_name s entry.items ≡ false → IsUntouched q → IsUntouched new
+  untouched_event entry q new one unnamed was =
       let commands = ap commands_in one.items ∙ commands_told entry.event q new in
-      record {
-        sound = event_sound Same (λ at found one. one.0) entry.event q
-            (λ at found one. (
-              one.0,
-              λ same. absurd
-                  (elsewhere (subst (λ i. aims_in i q.file.phase ≡ true) same one.1)),
-            )) was.sound;
-        away = event_away s entry.event q was.away (ap (items_name s) (sym commands) ∙ commands_name s entry.items
-            ∙ unnamed);
-      }
+      let unnoted : items_name s (commands_due q.file new.file) ≡ false
+      = ap (items_name s) (sym commands) ∙ commands_name s entry.items ∙ unnamed in
+      subst IsUntouched (sym one.after) (record {
+        sound = untouched_sound entry.event q was;
+        away = event_away s entry.event q was.away
+            (subst (λ (p : Physical). items_name s (commands_due q.file p.file) ≡ false) one.after unnoted);
+      })
 
   untouched_run : (start now : Physical) (entries : List Entry) → is_named s entries ≡ false → IsUntouched start
       → IsDriveRun start entries now → IsUntouched now
   untouched_run start now [] unnamed was run = subst IsUntouched (sym run) was
   untouched_run start now (entry ∷ earlier) unnamed was (before, run, last) =
       let parts = or_parts (items_name s entry.items) (is_named s earlier) unnamed in
-      subst IsUntouched (sym last.after)
-      (untouched_event entry before (subst (DriveEvent before entry) last.after last) parts.0
-      (untouched_run start before earlier parts.1 was run))
+      untouched_event entry before now last parts.0 (untouched_run start before earlier parts.1 was run)
+
+-- so begins a drive with whole sectors, all of them durable
+pub untouched_start : (room : ℕ) (durable : List (List ℕ)) (memory : List ℕ) (s : ℕ)
+    → All (λ sector. length sector ≡ 512) durable
+    → IsUntouched s (get_or durable s []) (physical_at_power_on (fresh room durable) (length durable) memory)
+untouched_start room durable memory s all = record {
+  sound = fresh_sound (Same s (get_or durable s [])) durable room memory
+      (λ at below. (all at [] below, λ same. ap (λ i. get_or durable i []) same));
+  away = refl;
+}
+
+-- and where it ends so, with as many sectors, the sector has its value
+pub untouched_end : (durable : List (List ℕ)) (s : ℕ) (now : Physical) → length now.kept.durable ≡ length durable
+    → IsUntouched s (get_or durable s []) now → get_or now.kept.durable s [] ≡ get_or durable s []
+untouched_end durable s now many end = elim (cases_lt s (length now.kept.durable)) [
+  | inl below ↦ (end.sound.kept.durable s below).1 refl
+  | inr past ↦ get_or_past now.kept.durable s [] past ∙ sym (get_or_past durable s [] (omega (arith, many)))
+]
 
 -- at the end of a run that began with whole sectors, all of them durable:
 module _ (room : ℕ) (durable : List (List ℕ)) (memory : List ℕ) (entries : List Entry) (now : Physical) where
@@ -116,12 +135,5 @@ module _ (room : ℕ) (durable : List (List ℕ)) (memory : List ℕ) (entries :
       → (s : ℕ) → is_named s entries ≡ false → get_or now.kept.durable s [] ≡ get_or durable s []
   only_named all run s unnamed =
       let start : Physical = physical_at_power_on (fresh room durable) (length durable) memory in
-      let value : List ℕ = get_or durable s [] in
-      let many = run_count run in
-      let fresh_same = fresh_sound (Same s value) durable room memory
-      (λ at below. (all at [] below, λ same. ap (λ i. get_or durable i []) same)) in
-      let end = untouched_run s value start now entries unnamed (record { sound = fresh_same; away = refl }) run in
-      elim (cases_lt s (length now.kept.durable)) [
-        | inl below ↦ (end.sound.kept.durable s below).1 refl
-        | inr past ↦ get_or_past now.kept.durable s [] past ∙ sym (get_or_past durable s [] (omega (arith, many)))
-      ]
+      untouched_end durable s now (run_count run) (untouched_run s (get_or durable s []) start now entries unnamed
+      (untouched_start room durable memory s all) run)

@@ -29,7 +29,7 @@ use Rattle.plain_run.specs.Run.{IsDriveRun, physical_event}
 use Rattle.plain_run.proofs.Kept.{after_length, destaged_length}
 
 -- no access changes how many sectors the drive says it has
-accesses_sectors : (accesses : List Access) (d : Device) → (all_accessed accesses d).sectors ≡ d.sectors
+pub accesses_sectors : (accesses : List Access) (d : Device) → (all_accessed accesses d).sectors ≡ d.sectors
 accesses_sectors [] d = refl
 accesses_sectors (a ∷ accesses) d = accesses_sectors accesses (accessed a d) ∙ accessed-sectors a d
 

@@ -1,15 +1,15 @@
 -- What every event of a physical drive keeps of the values that the drive keeps.
-use Rattle.std.proofs.Common.{◌≡◌, ℕ, ◌<◌, List, [], ◌∷◌, length, get_or, refl, sym, ◌∙◌, subst, arith}
+use Rattle.std.proofs.Common.{◌≡◌, ℕ, ◌<◌, List, [], ◌∷◌, length, get_or, refl, sym, ap, ◌∙◌, subst, arith}
 use Rattle.std.proofs.lemmas.List.Elements.{All-nil}
 use Rattle.ata_taskfile.specs.declared.Access.{Access}
 use Rattle.ata_taskfile.specs.Access.{accessed}
-use Rattle.ata_taskfile.specs.Accesses.{all_accessed}
+use Rattle.ata_taskfile.specs.Accesses.{Reaches, all_accessed}
 use Rattle.ata_taskfile.specs.Device.{Cell, Device, powered_on}
 use Rattle.ata_taskfile.specs.Lawful.{IsLawful}
 use Rattle.ata_taskfile.proofs.Lawfulness.{accessed-lawful}
 use Rattle.plain_drive.specs.Laws.{HasWholeSectors}
 use Rattle.plain_drive.specs.Change.{Change, leaves, writes, flushes, change_made}
-use Rattle.plain_drive.specs.Physical.{Physical, seen, keeping, cells_of, kept_cut, fresh, physical_at_power_on}
+use Rattle.plain_drive.specs.Physical.{Kept, Physical, seen, keeping, cells_of, kept_cut, fresh, physical_at_power_on}
 use Rattle.plain_drive.proofs.KeepsLawful.{step_made-lawful}
 use Rattle.schedule_text.specs.declared.Event.{Event}
 use Rattle.schedule_text.specs.declared.Event.TheVariants as event
@@ -17,7 +17,7 @@ use Rattle.plain_run.specs.Guest.{accesses_of, with_device}
 use Rattle.plain_run.specs.Run.{physical_event}
 use Rattle.plain_run.proofs.Kept.{Holds, Writes, after_holds, cut_holds, current_holds, destaged_holds}
 use Rattle.plain_run.proofs.Written.{IsAimed, step_aimed}
-use Rattle.plain_run.proofs.Sectors.{event_sectors, event_length}
+use Rattle.plain_run.proofs.Sectors.{accesses_sectors, event_sectors, event_length}
 
 -- a change that writes such a value writes such a weaker one
 writes_weaker : (P Q : ℕ → List ℕ → Type 0) → ((s : ℕ) (value : List ℕ) → P s value → Q s value) → (change : Change)
@@ -78,6 +78,18 @@ module _ (Q : ℕ → List ℕ → Type 0) (whole : (s : ℕ) (value : List ℕ)
     count = event_sectors one q ∙ sound.count ∙ sym (event_length one q);
     kept = event_holds one q aimed sound;
   }
+
+-- accesses that reach no sector keep it
+pub reached_sound : (Q : ℕ → List ℕ → Type 0) (q new : Physical) → Reaches (seen q).device (seen new).device
+    → new.kept ≡ q.kept → IsSound Q q → IsSound Q new
+reached_sound Q q new reached kept sound =
+    let said : new.sectors ≡ q.sectors = ap (λ (d : Device). d.sectors) reached.leads
+    ∙ accesses_sectors reached.accesses (seen q).device in
+    record {
+      lawful = subst IsLawful (sym reached.leads) (accesses_lawful reached.accesses (seen q).device sound.lawful);
+      count = said ∙ sound.count ∙ ap (λ (k : Kept). length k.durable) (sym kept);
+      kept = subst (Holds Q) (sym kept) sound.kept;
+    }
 
 -- a drive at power-on over such durable values
 pub fresh_sound : (Q : ℕ → List ℕ → Type 0) (durable : List (List ℕ)) (room : ℕ) (memory : List ℕ)

@@ -14,7 +14,7 @@ use Rattle.plain_run.specs.Entry.{Entry, answer_items, answers_in, entry_of, pla
 use Rattle.plain_run.specs.Guest.{after_guest, answer_due, is_guests}
 use Rattle.plain_run.specs.Event.{FollowsPlan, LeadsTo, PlainEvent, is_cut, is_drives, may_step}
 use Rattle.plain_run.specs.Run.{DriveEvent, physical_event, plan_due}
-use Rattle.plain_run.specs.Taken.{just_taken}
+use Rattle.schedule_text.specs.Taken.{just_taken}
 
 -- without a plan item the plain drive stays
 unplanned : (items : List Item) (old new : Plain) → plan_in items ≡ [] → FollowsPlan items old new → new ≡ old

@@ -20,21 +20,21 @@ use Rattle.schedule_text.specs.declared.Item.TheVariants as item
 use Rattle.plain_run.specs.Entry.{answer_bytes, answer_items, answers_in, plan_in, commands_in, entry_of, items_due}
 use Rattle.plain_run.specs.Guest.{answer_due}
 use Rattle.plain_run.specs.Run.{DriveEvent, drive_due, physical_event, plan_due, step_item}
-use Rattle.plain_run.specs.Taken.{commands_due, just_taken, command_item}
+use Rattle.schedule_text.specs.Taken.{commands_due, just_taken, command_item}
 
 -- what is looked for in two lists, one behind the other
-answers_behind : (items last : List Item) → answers_in (items ++ last) ≡ answers_in items ++ answers_in last
+pub answers_behind : (items last : List Item) → answers_in (items ++ last) ≡ answers_in items ++ answers_in last
 answers_behind [] last = refl
 answers_behind (item.Answer ∷ items) last = ap (λ xs. item.Answer ∷ xs) (answers_behind items last)
 answers_behind (one ∷ items) last = answers_behind items last
 
-plan_behind : (items last : List Item) → plan_in (items ++ last) ≡ plan_in items ++ plan_in last
+pub plan_behind : (items last : List Item) → plan_in (items ++ last) ≡ plan_in items ++ plan_in last
 plan_behind [] last = refl
 plan_behind (item.Go n ∷ items) last = ap (λ xs. item.Go n ∷ xs) (plan_behind items last)
 plan_behind (item.Bad ∷ items) last = ap (λ xs. item.Bad ∷ xs) (plan_behind items last)
 plan_behind (one ∷ items) last = plan_behind items last
 
-commands_behind : (items last : List Item) → commands_in (items ++ last) ≡ commands_in items ++ commands_in last
+pub commands_behind : (items last : List Item) → commands_in (items ++ last) ≡ commands_in items ++ commands_in last
 commands_behind [] last = refl
 commands_behind (item.Command byte first count ∷ items) last =
     ap (λ xs. item.Command byte first count ∷ xs) (commands_behind items last)

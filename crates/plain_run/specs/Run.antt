@@ -12,7 +12,7 @@ use Rattle.schedule_text.specs.declared.Item.TheVariants as item
 use Rattle.plain_run.specs.Entry.{Due, Entry, answer_bytes, items_due}
 use Rattle.plain_run.specs.Guest.{after_guest, answer_due}
 use Rattle.plain_run.specs.Event.{PlainEvent, is_cut, restarted, zeroed}
-use Rattle.plain_run.specs.Taken.{commands_due}
+use Rattle.schedule_text.specs.Taken.{commands_due}
 
 -- the physical drive after what a guest does in an event, which reaches no sector
 abbrev pub reached_by : Event → Physical → Physical

@@ -2,9 +2,9 @@
 //!
 //! Start with `specs/Entry.antt`, an event with what the report says of it, then `specs/Guest.antt` for what a guest
 //! does in an event, `specs/Event.antt` for one event of a plain drive and `specs/Run.antt` for a whole run of a drive
-//! that has no monitor. `specs/Plan.antt` says what a plan makes of a drive, `specs/Taken.antt` where a report tells
-//! that the drive took a command, and `specs/Written.antt` which sectors such lines name as written. The functions
-//! below are laws that show what the definitions mean; `docs/drive.md` has the same in words.
+//! that has no monitor. `specs/Plan.antt` says what a plan makes of a drive, and `specs/Written.antt` which sectors the
+//! lines of taken commands name as written. The functions below are laws that show what the definitions mean;
+//! `docs/drive.md` has the same in words.
 //!
 //! It has no tests of its own: those of `worked_runs` try its rules over whole runs.
 
@@ -21,7 +21,7 @@ ghost use Rattle.plain_run.specs.Guest.{answer_due, is_guests};
 ghost use Rattle.plain_run.specs.Event.{FollowsPlan, PlainEvent, is_cut, is_drives, may_step};
 ghost use Rattle.plain_run.specs.Plan.{IsPlanned};
 ghost use Rattle.plain_run.specs.Run.{DriveEvent, HasPlainRun, IsDriveRun, plan_due};
-ghost use Rattle.plain_run.specs.Taken.{commands_due};
+ghost use Rattle.schedule_text.specs.Taken.{commands_due};
 ghost use Rattle.plain_run.specs.Written.{is_named};
 
 /// An event that is neither the guest's nor a power cut, and has no plan, leaves the plain drive as it is: a destage,

@@ -51,6 +51,7 @@ pub fn scatter(view: &mut View, memory: &mut GuestMemory, bytes: &[u8], base: u6
     // The order stays, and moves on within the piece, and no register changes.
     ensures file { let f = view.old.file in view.new.file
         ≡ record f { phase = at_position (position_of view.new.file.phase) f.phase } }
+    ensures least { sector_in view.old.file.phase ≤ sector_in view.new.file.phase }
     ensures most { sector_in view.new.file.phase ≤ end }
     ensures fits { (sectors : ℕ) → FitsView view.old sectors → FitsView view.new sectors }
     ensures size { length memory.new ≡ length memory.old }
@@ -88,6 +89,7 @@ fn move_sectors(
     ensures file { view.new.file ≡ record view.old.file {
       phase = Busy (Good order) (position_of view.new.file.phase);
     } }
+    ensures least { done ≤ position_of view.new.file.phase }
     ensures most { sector_in view.new.file.phase ≤ end }
     ensures fits { (sectors : ℕ) → FitsView view.old sectors → FitsView view.new sectors }
     ensures size { length memory.new ≡ length memory.old }
@@ -127,6 +129,7 @@ fn move_one(
     ensures file { view.new.file ≡ record view.old.file {
       phase = Busy (Good order) (position_of view.new.file.phase);
     } }
+    ensures least { done ≤ position_of view.new.file.phase }
     ensures most { position_of view.new.file.phase ≤ done + 1 }
     ensures fits { (sectors : ℕ) → FitsView view.old sectors → FitsView view.new sectors }
     ensures size { length memory.new ≡ length memory.old }

@@ -83,12 +83,12 @@ lines_meet a (q ∷ b) s t x y few here (front, m, others, other, said, was) e =
 ]
 
 -- what is left begins with a line, whose event follows these events among more
-record Follows (left : List ℕ) (events more : List Event) : Type 0 where
-  said : Event
-  newer : List Event
-  some : left ≢ []
-  says : Says (first_line left) said
-  more_is : more ≡ newer ++ said ∷ events
+pub record Follows (left : List ℕ) (events more : List Event) : Type 0 where
+  pub said : Event
+  pub newer : List Event
+  pub some : left ≢ []
+  pub says : Says (first_line left) said
+  pub more_is : more ≡ newer ++ said ∷ events
 
 follows : (left : List ℕ) (events more : List Event) → GoesOn left events more → Follows left events more
 follows left events more on = record {
@@ -125,7 +125,7 @@ follows_cut text s left events more lines is cut on = record {
 }
 
 -- two readings of one text, with no more events here than there
-both_read : (text x y : List ℕ) (a b : List Event) → length a ≤ length b → HasRead text x a → HasRead text y b
+pub both_read : (text x y : List ℕ) (a b : List Event) → length a ≤ length b → HasRead text x a → HasRead text y b
     → ((a ≡ b) × (x ≡ y)) ⊎ Follows x a b
 both_read text x y a b few (s, here, inl is) (t, there, inl was) =
     elim (lines_meet a b s t x y few here there (sym is ∙ was)) [
@@ -154,7 +154,7 @@ both_read text x y a b few (s, here, inr (none, is, cut)) (t, there, inr (nothin
     ]
 
 -- events that are a schedule's, from its start
-abbrev Begins : List Event → Type 0
+abbrev pub Begins : List Event → Type 0
 Begins events = IsEnded events ⊎ MayGoOn events
 
 -- behind an `end` no line is due
@@ -194,7 +194,7 @@ fails_begins fault.Number number events left fails = inr fails.goes_on
 fails_begins fault.TooMany number events left fails = inr fails.goes_on
 
 -- where a schedule fails, it doesn't go on
-fails_here : (kind : LineFault) (number : ℕ) (events more : List Event) (left : List ℕ)
+pub fails_here : (kind : LineFault) (number : ℕ) (events more : List Event) (left : List ℕ)
     → FailsWith kind number events left
     → length events + 1 ≡ number → Begins more → ¬ Follows left events more
 fails_here fault.NoEnd number events more left fails next begins on = on.some fails.1
@@ -243,7 +243,7 @@ bad_line_once text a b m n k l first second = elim (cases_lt (length b) (length 
 ]
 
 -- nothing is left behind a whole schedule, so no reading of its text goes on
-schedule_within : (text left : List ℕ) (events earlier : List Event) → IsSchedule text events
+pub schedule_within : (text left : List ℕ) (events earlier : List Event) → IsSchedule text events
     → HasRead text left earlier
     → (length earlier ≤ length events → Follows left earlier events → ⊥) → (earlier ≡ events) × (left ≡ [])
 schedule_within text left events earlier whole read stays = elim (cases_lt (length events) (length earlier)) [

@@ -3,3 +3,4 @@ pub mod Schedule
 pub mod BadLine
 pub mod Lengths
 pub mod Report
+pub mod Taken

@@ -2,7 +2,8 @@
 //!
 //! Start with `Event`, one line of a schedule, and `Item`, one line of a report. `specs/Line.antt` has the grammar of
 //! a schedule's line, `specs/Schedule.antt` that of a whole schedule, `specs/BadLine.antt` what its first bad line is,
-//! and `specs/Report.antt` the text of a report's lines. `docs/formats.md` has the same as tables.
+//! `specs/Report.antt` the text of a report's lines, and `specs/Taken.antt` where one tells that the drive took a
+//! command. `docs/formats.md` has the same as tables.
 //!
 //! The tests are in `src/tests.rt`.
 

@@ -27,6 +27,7 @@ loop-sector-preserved c =
       begun = λ none. absurd (omega arith);
       walks = λ walking. made.goes_on walking ∙ ap (λ n. Busy (Good order) n) next;
       file = made.file ∙ ap at_now so_far.file;
+      from = omega (arith, made.least);
       within = omega (arith, made.most);
       steps = λ d g holds. rw add-one
           (made.step d g (holds (order.first + done) (omega arith) (omega arith) ∙ value)

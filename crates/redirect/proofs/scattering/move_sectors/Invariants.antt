@@ -17,6 +17,7 @@ invariant-loop-sector l = record {
   begun : l.moved ≡ 0 → l.view ≡ l.initial.view;
   walks : is_some l.view.bus.walk ≡ true → l.view.file.phase ≡ Busy (Good l.order) (l.done + l.moved);
   file : l.view.file ≡ record l.initial.view.file { phase = Busy (Good l.order) (position_of l.view.file.phase) };
+  from : l.done ≤ position_of l.view.file.phase;
   within : position_of l.view.file.phase ≤ l.done + l.moved;
   steps : (d g : Device) → HoldsPiece l.bytes l.base (l.order.first + l.done) l.end g
       → plain (on_monitor_side l.view d g) l.memory
