@@ -34,8 +34,8 @@ some_looked (suc n) outside after looks rose = omega arith
 pub looked_hands : (outside after : Outside) (old new : Scene) (entry : Entry)
     → WorldEvent outside after old entry new → outside.looked < after.looked → HandsSectors entry.event old
 looked_hands outside after old new entry one rose =
-    hands_by entry.event old (outside.told Image) (handed_to_server entry.event old.wire) one.network.answer one.count
-    refl one.network.serves (some_looked one.count outside after one.looked rose)
+    hands_by entry.event old (outside.told Image) (handed_to_server entry.event old.wire)
+    one.scene.network.answer one.count refl one.scene.network.serves (some_looked one.count outside after one.looked rose)
 
 counted : (sectors : ℕ) (told : Option (List ℕ)) (frame : List ℕ) (answer : Option (List ℕ)) (count : ℕ)
     (reading : Result Aoe FrameFault) → IsServed sectors told frame answer count → IsReading frame reading
@@ -48,8 +48,8 @@ pub looked_most : (outside after : Outside) (old new : Scene) (entry : Entry)
     → handed_to_server entry.event old.wire ≡ Some frame → IsReading frame reading
     → LooksAtMost (sectors_sent old.image reading) outside after
 looked_most outside after old new entry one frame reading handed reads =
-    let served : IsServed old.image (outside.told Image) frame one.network.answer one.count =
-    subst (λ given. Serves old.image (outside.told Image) given one.network.answer one.count) handed
-    one.network.serves in
+    let served : IsServed old.image (outside.told Image) frame one.scene.network.answer one.count =
+    subst (λ given. Serves old.image (outside.told Image) given one.scene.network.answer one.count) handed
+    one.scene.network.serves in
     subst (λ n. LooksAtMost n outside after)
-    (counted old.image (outside.told Image) frame one.network.answer one.count reading served reads) one.looked
+    (counted old.image (outside.told Image) frame one.scene.network.answer one.count reading served reads) one.looked

@@ -1,5 +1,5 @@
 -- Which frames an event's items send.
-use Rattle.std.proofs.Common.{ℕ, ◌≢◌, ◌++◌, ap, ◌∙◌, ◌≡◌, List, [], ◌∷◌, false, refl}
+use Rattle.std.proofs.Common.{ℕ, ◌≢◌, ◌++◌, ap, ◌∙◌, ◌≡◌, List, [], ◌∷◌, false, refl, append-nil}
 use Rattle.std.specs.Prelude.{All}
 use Rattle.std.proofs.lemmas.List.Elements.{All-head, All-tail}
 use Rattle.aoe_net.specs.declared.way.Way.TheVariants.{ToServer}
@@ -25,13 +25,14 @@ none_asked (other ∷ items) alone = none_asked items (All-tail (λ one. is_moni
 pub drive_asks_none : (old new : Physical) (entry : Entry) → DriveEvent old entry new → requests_in entry.items ≡ []
 drive_asks_none old new entry one = none_asked entry.items (event_alone old new entry one)
 
--- an item more that asks is a request more, and any other is none
-asked_behind : (items : List Item) (tag : ℕ)
-    → requests_in (items ++ item.Asked tag ∷ []) ≡ requests_in items ++ request_frame tag ∷ []
-asked_behind [] tag = refl
-asked_behind (item.Asked first ∷ items) tag = ap (λ frames. request_frame first ∷ frames) (asked_behind items tag)
-asked_behind (other ∷ items) tag = asked_behind items tag
+-- the requests of two lists, one behind the other
+pub requests_behind : (items last : List Item) → requests_in (items ++ last) ≡ requests_in items ++ requests_in last
+requests_behind [] last = refl
+requests_behind (item.Asked tag ∷ items) last =
+    ap (λ frames. request_frame tag ∷ frames) (requests_behind items last)
+requests_behind (one ∷ items) last = requests_behind items last
 
+-- an item more that asks is a request more, and any other is none
 sent_behind : (frames : List (List ℕ)) (frame : List ℕ) (wire : Wire)
     → requests_sent (frames ++ frame ∷ []) wire ≡ sent ToServer frame (requests_sent frames wire)
 sent_behind [] frame wire = refl
@@ -41,7 +42,7 @@ pub asked_joins : (items : List Item) (tag : ℕ) (wire : Wire)
     → requests_sent (requests_in (items ++ item.Asked tag ∷ [])) wire
     ≡ sent ToServer (request_frame tag) (requests_sent (requests_in items) wire)
 asked_joins items tag wire =
-    ap (λ frames. requests_sent frames wire) (asked_behind items tag)
+    ap (λ frames. requests_sent frames wire) (requests_behind items (item.Asked tag ∷ []))
     ∙ sent_behind (requests_in items) (request_frame tag) wire
 
 unasked : (one : Item) → ((tag : ℕ) → one ≢ item.Asked tag) → requests_in (one ∷ []) ≡ []
@@ -50,7 +51,5 @@ unasked one other = refl
 
 pub others_join : (items : List Item) (one : Item) → ((tag : ℕ) → one ≢ item.Asked tag)
     → requests_in (items ++ one ∷ []) ≡ requests_in items
-others_join [] one other = unasked one other
-others_join (item.Asked first ∷ items) one other =
-    ap (λ frames. request_frame first ∷ frames) (others_join items one other)
-others_join (more ∷ items) one other = others_join items one other
+others_join items one other =
+    requests_behind items (one ∷ []) ∙ rw (unasked one other) (append-nil (requests_in items))

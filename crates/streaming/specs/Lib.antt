@@ -1,3 +1,9 @@
 pub mod Network
 pub mod Lists
+pub mod Client
+pub mod Told
+pub mod Trace
+pub mod Monitor
 pub mod World
+pub mod Built
+pub mod Lines

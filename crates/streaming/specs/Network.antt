@@ -45,6 +45,12 @@ handed_to_server (event.Deliver ToServer k keep) wire = slice_get wire.to_server
 handed_to_server (event.Stray ToServer frame) wire = Some frame
 handed_to_server other wire = None
 
+-- the frame that an event hands to the client: a reply of the network, or a stray one (own)
+abbrev pub handed_to_client : Event → Wire → Option (List ℕ)
+handed_to_client (event.Deliver ToClient k keep) wire = slice_get wire.to_client k
+handed_to_client (event.Stray ToClient frame) wire = Some frame
+handed_to_client other wire = None
+
 -- the server's reply to a frame over an image of so many sectors, where it is told, and how many of these go into it
 pub record IsServed (sectors : ℕ) (told : Option (List ℕ)) (frame : List ℕ)
     (answer : Option (List ℕ)) (count : ℕ) : Type 0 where

@@ -1,21 +1,29 @@
 //! Laws of one event of the network.
 
 ghost use Rattle.std.specs.Prelude.{◌≡◌, ◌≢◌, ◌++◌, ◌∷◌, ℕ, List, [], remove, true, false, Option, Some, None};
+ghost use Rattle.ata_taskfile.specs.Accesses.{Reaches};
+ghost use Rattle.ata_taskfile.specs.Device.{Device};
+ghost use Rattle.ata_taskfile.specs.Lawful.{is_just_taken};
+ghost use Rattle.ata_taskfile.specs.declared.Step.{Step as StepOf};
+ghost use Rattle.ata_taskfile.specs.declared.Stepped.{Stepped as SteppedOf};
 ghost use Rattle.aoe_net.specs.declared.way.Way.{Way};
 ghost use Rattle.aoe_net.specs.declared.way.Way.TheVariants.{ToClient, ToServer};
 ghost use Rattle.aoe_net.specs.Wire.{Wire, going, queued, sent, without};
 ghost use Rattle.image_server.specs.Serving.{IsReply};
 ghost use Rattle.aoe_client.specs.Messages.{request_frame};
 ghost use Rattle.plain_drive.specs.Plain.{Plain};
-ghost use Rattle.plain_drive.specs.Physical.{Physical};
+ghost use Rattle.plain_drive.specs.Physical.{Physical, physical_step};
+ghost use Rattle.plain_drive.specs.Seen.{HasLetGo, HasStepped};
 ghost use Rattle.schedule_text.specs.declared.Event.TheVariants.{Deliver, Lose, Stray};
 ghost use Rattle.schedule_text.specs.declared.Item.{Item};
 ghost use Rattle.schedule_text.specs.declared.Item.TheVariants.{Asked};
-ghost use Rattle.plain_run.specs.Entry.{Entry};
+ghost use Rattle.schedule_text.specs.Taken.{commands_due};
+ghost use Rattle.plain_run.specs.Entry.{Entry, commands_in};
 ghost use Rattle.plain_run.specs.Event.{PlainEvent};
 ghost use Rattle.plain_run.specs.Run.{DriveEvent};
 ghost use Rattle.streaming.specs.Network.{NetworkEvent, handed_to_server, requests_in, requests_sent};
 ghost use Rattle.streaming.specs.Lists.{is_of_network};
+ghost use Rattle.streaming.specs.Lines.{IsTold, Line};
 
 /// An event without a frame and without a request, a power cut among them, leaves the network as it is, and has no
 /// sector go into a reply.
@@ -103,4 +111,29 @@ pub fn a_frame_moves_no_drive()
 pub fn a_drive_alone_sends_no_request()
     ensures { (old new : Physical) (entry : Entry) → DriveEvent old entry new
         → requests_in entry.items ≡ [] }
+{}
+
+/// Register accesses give a drive no other command behind one of which nothing is done.
+pub fn accesses_replace_no_command()
+    ensures { (old new : Device) → Reaches old new → is_just_taken old.file.phase ≡ true
+        → is_just_taken new.file.phase ≡ true → new.file.phase ≡ old.file.phase }
+{}
+
+/// Nor does a step: a command of which nothing is done afterwards is the one that was in hand.
+pub fn steps_take_no_command()
+    ensures { (step : StepOf) (p : Physical) → is_just_taken (physical_step step p).file.phase ≡ true
+        → (physical_step step p).file.phase ≡ p.file.phase }
+{}
+
+/// The command that the drive has in hand stays the one that was told last: through register accesses under a call that
+/// tells of the command which they gave, where they gave one, and through each step, good or failing, and each destage.
+pub fn the_command_in_hand_was_told()
+    ensures accesses { (old new : Device) (lines : List Line) (line : Line) → Reaches old new
+        → commands_in line.items ≡ commands_due old.file new.file → IsTold old.file lines
+        → IsTold new.file (line ∷ lines) }
+    ensures stepped { (step : StepOf) (answer : SteppedOf) (old new : Plain) (lines : List Line) →
+        HasStepped step answer old new → IsTold old.device.file lines
+        → IsTold new.device.file lines }
+    ensures let_go { (old new : Plain) (lines : List Line) → HasLetGo old new
+        → IsTold old.device.file lines → IsTold new.device.file lines }
 {}
