@@ -1,1 +1,15 @@
 pub mod Setup
+pub mod State
+pub mod Leases
+pub mod Pieces
+pub mod Classes
+pub mod Hand
+pub mod Drive
+pub mod Fits
+pub mod Start
+pub mod Accessed
+pub mod Propositions
+pub mod SameAsks
+pub mod Seen
+pub mod Sectors
+pub mod GoesOn

@@ -2,8 +2,8 @@
 use Rattle.std.specs.Prelude.{◌≤◌}
 use Rattle.fill_bitmap.specs.Area.{IsSuitable}
 use Rattle.bg_copy.specs.Moderation.{IsInRange, moderation}
-use Rattle.monitor_state.specs.declared.Setup.{Setup}
-use Rattle.monitor_state.specs.declared.TheConstants.{LEAST_POOL, MOST_POOL}
+use Rattle.monitor_state.specs.declared.setup.Setup.{Setup}
+use Rattle.monitor_state.specs.declared.setup.TheConstants.{LEAST_POOL, MOST_POOL}
 
 -- the area is suitable, and each number is within its bounds (own)
 pub record IsSetup (s : Setup) : Type 0 where

@@ -1,30 +1,52 @@
-//! What the monitor knows: so far the numbers that it is set up with.
+//! What the monitor knows and holds, and in which state it is.
 //!
-//! Start with `Setup`. `specs/Setup.antt` says which numbers fit.
+//! Start with `State`, who has the drive and what the monitor does with it, then `Parts`, all that it keeps beside
+//! that. `Setup` has the numbers that it begins with.
+//!
+//! `specs/Fits.antt` says what holds of state, parts and drive between any two calls: `FitsParts` of the first two
+//! alone, `FitsDevice` of the drive, and `Fits` of all; `docs/monitor.md` has it as a table. Of what these speak in,
+//! `specs/State.antt` has the view and who has the drive, `Hand` what is in hand of a guest's command, `Drive` how the
+//! drive rests, `Leases` where the pool's buffers are, `Classes` which commands are refused, `Pieces` what becomes of
+//! the held piece, `Setup` which numbers a deployment begins with and `Start` the parts at power-on. `Accessed` and
+//! `SameAsks` are what an access and the client's own doings change, and `Propositions` that what fits has one proof.
+//!
+//! `specs/Seen.antt` says what the guest sees, whoever has the drive, and when a plain drive is that (`Shows`),
+//! `Sectors` when what the guest gets of sectors is what such a drive has there, and `GoesOn` what a call that tells of
+//! steps makes of it.
+//!
+//! The laws stand in `laws` (accesses, steps, power-on), `in_hand` (the view's own steps), `seen` (what the guest
+//! sees), `asks` (the client), `leases` and `starting`. `tests` is a table by hand of the calls of `Parts`.
 
 #![tactic(auto)]
 
-use fill_bitmap::Area;
+mod asks;
+mod held;
+mod in_hand;
+mod laws;
+mod leases;
+mod parts;
+mod seen;
+mod setup;
+mod starting;
+mod state;
+#[cfg(test)]
+mod tests;
 
-/// The fewest leases of the monitor's pool (own).
-pub const LEAST_POOL: u32 = 4;
-
-/// The most leases of the monitor's pool (own).
-pub const MOST_POOL: u32 = 16;
-
-/// What a deployment is set up with (own).
-#[derive(Clone, Copy, Debug, PartialEq, Eq)]
-pub struct Setup {
-    /// The image on the disk.
-    pub area: Area,
-    /// The number of the run, which its header has.
-    pub id: u64,
-    /// The ticks that go by between two copies: at most `bg_copy::MOST_GAP`.
-    pub gap: u32,
-    /// The ticks over which the guest's commands are counted: 1 to `bg_copy::MOST_WINDOW`.
-    pub window: u32,
-    /// The commands of the guest in these ticks up to which a copy is made: at most `bg_copy::MOST_LIMIT`.
-    pub limit: u32,
-    /// The leases of the monitor's pool: `LEAST_POOL` to `MOST_POOL`.
-    pub pool: u32,
-}
+pub use asks::{asks_stay, clients_buffers_are_of_the_pool, same_asks_keep_the_fit};
+pub use held::{Hand, HeldPiece};
+pub use in_hand::{
+    a_raised_interrupt_fits, planned_ends_leave_an_empty_hand, the_views_steps_keep_what_is_in_hand,
+};
+pub use laws::{
+    a_drive_at_power_on_fits, a_resting_drive_is_free, accesses_keep_the_fit,
+    accesses_keep_the_parts, held_pieces_are_of_the_parts, steps_keep_the_fit, views_are_in_step,
+};
+pub use leases::{a_buffer_is_free, leases_go_back_in_order};
+pub use parts::Parts;
+pub use seen::{
+    a_plain_drive_can_be_seen, destages_keep_what_is_seen, unseen_steps_keep_what_is_seen,
+};
+pub use setup::{LEAST_POOL, MOST_POOL, Setup};
+pub use starting::begun_parts_fit;
+pub use state::{Plan, Purpose, State};
+pub use std::alloc::AllocError as NoMemory;

@@ -1,0 +1,117 @@
+-- What a call leaves of the plain drives for which a mediator stands.
+use Rattle.std.proofs.Common.{◌≡◌, ℕ, List, [], ◌∷◌, ◌++◌, Option, refl, sym, ap, ◌∙◌, subst}
+use Rattle.std.proofs.lemmas.List.{append_cancel_left}
+use Rattle.ata_taskfile.specs.Accesses.{Reaches}
+use Rattle.ata_taskfile.specs.Device.{Cell, Device, powered_on}
+use Rattle.aoe_client.specs.Asking.{Asking}
+use Rattle.plain_drive.specs.Alike.{block_matters, without_command}
+use Rattle.plain_drive.specs.Plain.{Plain, plain}
+use Rattle.port_lease.specs.declared.view.View.{View}
+use Rattle.port_lease.specs.Seen.{bus_beside}
+use Rattle.port_lease.specs.Sides.{view_held}
+use Rattle.schedule_text.specs.declared.Item.{Item}
+use Rattle.schedule_text.specs.Taken.{commands_due}
+use Rattle.plain_run.specs.Entry.{commands_in}
+use Rattle.plain_run.specs.Plan.{ActsAlong, planned}
+use Rattle.streaming.specs.Lines.{Call, IsTold, Line}
+use Rattle.streaming.specs.Monitor.{asked_items, item_of}
+use Rattle.streaming.proofs.ToldCommands.{accessed_told}
+use Rattle.streaming.proofs.Untold.{none_due}
+use Rattle.monitor_state.specs.declared.state.State.{State}
+use Rattle.monitor_state.specs.declared.state.State.TheVariants.{Guest, Monitor, Running, Raising, Moving}
+use Rattle.monitor_state.specs.declared.parts.Parts.{Parts}
+use Rattle.monitor_state.specs.GoesOn.{GoesOn}
+use Rattle.monitor_state.specs.Seen.{Shows, is_refused_in}
+use Rattle.monitor_state.proofs.Shown.{same_refused, same_seen}
+use Rattle.mediator.specs.declared.mediator.Mediator.{Mediator}
+use Rattle.mediator.specs.Couples.{KeepsAll, KeepsAlong, StandsAtPowerOn, line_of}
+use Rattle.mediator.specs.Mediator.{StartsWith, parts_of, state_of, with_client}
+use Rattle.mediator.proofs.Told.{told_acts, told_planned}
+
+reached_itself : (d : Device) → Reaches d d
+reached_itself d = record { accesses = []; leads = refl }
+
+-- register accesses under a call that gave these items
+pub reached_told : (call : Call) (q : Plain) (given : List Item) (d e : Device) (lines : List Line)
+    → ((origin : Device) → Reaches origin d → Reaches origin e) → commands_in given ≡ commands_due d.file e.file
+    → IsTold d.file lines → IsTold e.file (line_of call q given ∷ lines)
+reached_told call q given d e lines reached is told =
+    accessed_told d e lines (line_of call q given) (reached d (reached_itself d)) is told
+
+-- a call that reached no drive
+pub unmoved_told : (call : Call) (q : Plain) (given : List Item) (d : Device) (lines : List Line)
+    → commands_in given ≡ [] → IsTold d.file lines → IsTold d.file (line_of call q given ∷ lines)
+unmoved_told call q given d lines none told =
+    reached_told call q given d d lines (λ origin was. was) (none ∙ none_due d.file d.file (λ taken. taken)) told
+
+-- a call that told this, and sent these requests
+pub along_kept : (call : Call) (m n : Mediator) (d e : Device) (memory left : List ℕ) (told : Option Item)
+    (tags : List ℕ) (before after : List Item) → after ≡ before ++ (item_of told ++ asked_items tags)
+    → GoesOn (state_of m) (parts_of m) d memory (item_of told) (state_of n) (parts_of n) e left
+    → ((q : Plain) (lines : List Line) (given : List Item) → given ≡ item_of told ++ asked_items tags
+    → IsTold d.file lines → IsTold e.file (line_of call q given ∷ lines))
+    → KeepsAlong call before after m d memory n e left
+along_kept call m n d e memory left told tags before after items goes_on is_told = λ q lines given is couples sectors.
+    let same : given ≡ item_of told ++ asked_items tags = append_cancel_left before _ _ (sym is ∙ items) in
+    let goes = goes_on q couples.shows sectors in (
+      subst (λ xs. ActsAlong xs q) (sym same) (told_acts told tags q goes.0),
+      record {
+        shows = subst (λ r. Shows (state_of n) (parts_of n) e left r)
+            (sym (ap (λ xs. planned xs q) same ∙ told_planned told tags q)) goes.1;
+        told = is_told q lines given same couples.told;
+      },
+    )
+
+-- what the client asks for is nothing that the guest sees
+pub client_shown : (s : State) (p : Parts) (c : Asking) (d : Device) (memory : List ℕ) (q : Plain)
+    → Shows s p d memory q → Shows s (record p { client = c }) d memory q
+client_shown (Guest side) p c d memory q shows =
+    same_seen (Guest side) (Guest side) p (record p { client = c }) d d memory q refl refl (λ matters. refl) refl
+    shows.served shows
+client_shown (Monitor side) p c d memory q shows =
+    same_seen (Monitor side) (Monitor side) p (record p { client = c }) d d memory q refl refl (λ matters. refl) refl
+    (same_refused (view_held side).file.phase p (record p { client = c }) refl refl ∙ shows.served) shows
+client_shown (Running side own why) p c d memory q shows =
+    same_seen (Running side own why) (Running side own why) p (record p { client = c }) d d memory q refl refl
+    (λ matters. refl) refl
+    (same_refused (view_held side).file.phase p (record p { client = c }) refl refl ∙ shows.served) shows
+client_shown (Raising side dummy kind) p c d memory q shows =
+    same_seen (Raising side dummy kind) (Raising side dummy kind) p (record p { client = c }) d d memory q refl refl
+    (λ matters. refl) refl
+    (same_refused (view_held side).file.phase p (record p { client = c }) refl refl ∙ shows.served) shows
+client_shown Moving p c d memory q shows =
+    same_seen Moving Moving p (record p { client = c }) d d memory q refl refl (λ matters. refl) refl
+    shows.served shows
+
+-- a call in which no more changed than what the client asks for
+pub client_kept : (call : Call) (m n : Mediator) (c : Asking) (given before after : List Item) → n ≡ with_client c m
+    → after ≡ before ++ given → commands_in given ≡ [] → KeepsAll call before after m n
+client_kept call m n c gave before after is items none = λ d memory q lines given says couples.
+    let same : given ≡ gave = append_cancel_left before _ _ (sym says ∙ items) in
+    record {
+      shows = subst (λ (x : Mediator). Shows (state_of x) (parts_of x) d memory q) (sym is)
+          (client_shown (state_of m) (parts_of m) c d memory q couples.shows);
+      told = unmoved_told call q given d lines (ap commands_in same ∙ none) couples.told;
+    }
+
+-- at power-on the guest sees the registers of power-on
+started_shown : (s : State) (p : Parts) (cells shown : List Cell) (memory : List ℕ) → StartsWith s
+    → Shows s p (powered_on cells p.area.sectors) memory (plain (powered_on shown p.area.sectors) memory)
+started_shown (Guest side) p cells shown memory starts = absurd starts
+started_shown (Running side own why) p cells shown memory starts = absurd starts
+started_shown (Raising side dummy kind) p cells shown memory starts = absurd starts
+started_shown Moving p cells shown memory starts = absurd starts
+started_shown (Monitor side) p cells shown memory starts = record {
+  file = sym (ap (λ (v : View). without_command v.file) starts.view);
+  bus = sym (ap (λ (v : View). bus_beside v.bus (powered_on cells p.area.sectors).bus) starts.view);
+  block = λ matters. let none = ap (λ (v : View). block_matters v.file.phase) starts.view in absurd cc;
+  sectors = refl;
+  memory_is = refl;
+  served = ap (λ (v : View). is_refused_in v.file.phase p) starts.view;
+}
+
+pub stands_at_power_on : (m : Mediator) → StartsWith (state_of m) → StandsAtPowerOn m
+stands_at_power_on m starts = λ cells shown memory lines. record {
+  shows = started_shown (state_of m) (parts_of m) cells shown memory starts;
+  told = tt;
+}

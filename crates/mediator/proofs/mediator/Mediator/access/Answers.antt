@@ -1,0 +1,32 @@
+use Rattle.std.proofs.Common.{[], sym, ◌∙◌, subst}
+use Rattle.plain_drive.specs.Alike.{after_access}
+use Rattle.streaming.specs.Lines.{of_access}
+use Rattle.streaming.proofs.Untold.{none_due}
+use Rattle.monitor_state.specs.Seen.{Shows}
+use Rattle.mediator.proofs.Coupled.{reached_told}
+use Rattle.mediator.proofs.Standing.{left_as}
+use Rattle.mediator.proofs.mediator.Mediator.access.Goals as goal
+
+pub returns-clause-answers : goal.returns-clause-answers
+returns-clause-answers g c = λ q lines couples.
+    c.accessed-state.ensures.answers c.args._memory.now q
+    (subst (λ t. Shows t c.args.self.now.parts (g.P.Ports.device c.args.ports.now) c.args._memory.now q)
+    (sym c.replace-state.ensures.value) couples.shows)
+
+pub returns-clause-kept : goal.returns-clause-kept
+returns-clause-kept g c = λ q lines couples none.
+    let d = g.P.Ports.device c.args.ports.now in
+    let call = c.accessed-state in
+    let e = g.P.Ports.device call.new.ports in
+    let memory = c.args._memory.now in
+    let meanwhile = c.replace.ensures.value ∙ c.replace-state.ensures.after in
+    let shows = subst (λ t. Shows t c.args.self.now.parts d memory q) (sym c.replace-state.ensures.value)
+    couples.shows in
+    let unmarked = call.ensures.marked memory q shows ∙ none in
+    record {
+      shows = left_as (λ t r. Shows t r e memory (after_access c.args.access.now q)) _ _ _ _ _
+          c.replace.ensures.after meanwhile c.end.ensures.given
+          (call.ensures.shown memory q shows unmarked);
+      told = reached_told (of_access c.args.access.now) q [] d e lines call.ensures.reached
+          (none_due d.file e.file call.ensures.commands) couples.told;
+    }

@@ -1,0 +1,14 @@
+use Rattle.mediator.proofs.Standing.{same_asks}
+use Rattle.mediator.proofs.mediator.Mediator.next_send.Goals as goal
+
+pub returns-clause-fits : goal.returns-clause-fits
+returns-clause-fits c =
+    let p = c.args.self.now.parts in
+    let same = same_asks p _ _ c.next_send.ensures.after (c.asks_stay.ensures.sent p.client) in
+    λ d fits. c.same_asks_keep_the_fit.ensures.fits c.args.self.now.state _ _ d same fits
+
+pub returns-clause-fit : goal.returns-clause-fit
+returns-clause-fit c =
+    let p = c.args.self.now.parts in
+    let same = same_asks p _ _ c.next_send.ensures.after (c.asks_stay.ensures.sent p.client) in
+    λ fit. c.same_asks_keep_the_fit.ensures.parts c.args.self.now.state _ _ same fit

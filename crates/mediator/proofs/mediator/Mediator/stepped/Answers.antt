@@ -1,0 +1,53 @@
+use Rattle.std.proofs.Common.{◌++◌, List, [], sym, ap, ◌∙◌, subst, append-nil}
+use Rattle.ata_taskfile.specs.Device.{Device}
+use Rattle.ata_taskfile.specs.Lawful.{is_just_taken}
+use Rattle.plain_run.specs.Entry.{commands_in}
+use Rattle.schedule_text.specs.declared.Item.{Item}
+use Rattle.streaming.specs.Lines.{IsTold, of_step}
+use Rattle.streaming.specs.Monitor.{item_of}
+use Rattle.streaming.specs.Told.{command_told}
+use Rattle.streaming.proofs.ToldCommands.{stepped_told}
+use Rattle.streaming.proofs.Untold.{none_due}
+use Rattle.monitor_state.specs.Fits.{Fits}
+use Rattle.monitor_state.specs.GoesOn.{GoesOn}
+use Rattle.monitor_events.specs.Shown.{HasComeTo}
+use Rattle.mediator.specs.declared.mediator.Mediator.{Mediator}
+use Rattle.mediator.proofs.Coupled.{along_kept, reached_told}
+use Rattle.mediator.proofs.Standing.{left_as}
+use Rattle.mediator.proofs.Told.{step_untold, told_commands}
+use Rattle.mediator.proofs.mediator.Mediator.stepped.Goals as goal
+
+pub returns-clause-fits : goal.returns-clause-fits
+returns-clause-fits g c =
+    let meanwhile = c.replace.ensures.value ∙ c.replace-state.ensures.after in
+    left_as (λ t r. Fits t r (g.P.Ports.device c.stepped-state.new.ports)) _ _ _ _ _ c.replace.ensures.after meanwhile
+    c.end.ensures.given c.stepped-state.ensures.fits
+
+pub returns-clause-kept : goal.returns-clause-kept
+returns-clause-kept g c = λ old now at come.
+    let m = c.args.self.now in
+    let d = g.P.Ports.device c.args.ports.now in
+    let e = g.P.Ports.device c.stepped-state.new.ports in
+    let told = c.stepped-state.result.1 in
+    let meanwhile = c.replace.ensures.value ∙ c.replace-state.ensures.after in
+    let before = c.args.out.now.items.items in
+    let n : Mediator = record {
+      state = c.replace.new.dest;
+      parts = record c.stepped-state.new.parts { pool = c.end.new.pool };
+    } in
+    let call = of_step c.args.step c.args.changed in
+    along_kept call m n old.device e old.memory now.memory told [] before c.push.new.out.items.items
+    (c.push.ensures.items ∙ ap (λ (xs : List Item). before ++ xs) (sym (append-nil (item_of told))))
+    (left_as (λ t r. GoesOn m.state m.parts old.device old.memory (item_of told) t r e now.memory) _ _ _ _ _
+    c.replace.ensures.after meanwhile c.end.ensures.given
+    (subst (λ t. GoesOn t m.parts old.device old.memory (item_of told) c.stepped-state.result.0
+    c.stepped-state.new.parts e now.memory) c.replace-state.ensures.value
+    (c.stepped-state.ensures.shown old now at
+    (subst (λ t. HasComeTo t m.parts c.args.step c.args.changed old now) (sym c.replace-state.ensures.value) come))))
+    (λ q lines given same before_told.
+    reached_told call q given d e lines c.stepped-state.ensures.reached
+    (ap commands_in same ∙ told_commands told [] ∙ ap command_told c.stepped-state.ensures.plan
+    ∙ step_untold c.replace-state.result c.args.step c.args.changed d
+    ∙ none_due d.file e.file (λ taken. ap is_just_taken (sym (c.stepped-state.ensures.begins taken)) ∙ taken))
+    (subst (λ (f : Device). IsTold f.file lines) at
+    (stepped_told c.args.step c.args.changed old now lines come.stepped before_told)))

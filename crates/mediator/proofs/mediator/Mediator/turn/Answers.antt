@@ -1,0 +1,45 @@
+use Rattle.std.proofs.Common.{◌++◌, List, ap, ◌∙◌, subst}
+use Rattle.std.proofs.lemmas.List.{append_assoc}
+use Rattle.aoe_client.specs.Asking.{due_tags}
+use Rattle.plain_run.specs.Entry.{commands_in}
+use Rattle.schedule_text.specs.declared.Item.{Item}
+use Rattle.streaming.specs.Lines.{of_turn}
+use Rattle.streaming.specs.Monitor.{asked_items, item_of}
+use Rattle.monitor_state.specs.Fits.{Fits}
+use Rattle.monitor_state.specs.GoesOn.{GoesOn}
+use Rattle.mediator.specs.declared.mediator.Mediator.{Mediator}
+use Rattle.mediator.proofs.Coupled.{along_kept, reached_told}
+use Rattle.mediator.proofs.Standing.{left_as}
+use Rattle.mediator.proofs.Told.{told_commands}
+use Rattle.mediator.proofs.mediator.Mediator.turn.Goals as goal
+
+pub returns-clause-fits : goal.returns-clause-fits
+returns-clause-fits g c =
+    let meanwhile = c.replace.ensures.value ∙ c.replace-state.ensures.after in
+    left_as (λ t r. Fits t r (g.P.Ports.device c.turned-state.new.ports)) _ _ _ _ _ c.replace.ensures.after meanwhile
+    c.end.ensures.given c.turned-state.ensures.fits
+
+pub returns-clause-kept : goal.returns-clause-kept
+returns-clause-kept g c =
+    let m = c.args.self.now in
+    let d = g.P.Ports.device c.args.ports.now in
+    let e = g.P.Ports.device c.turned-state.new.ports in
+    let told = c.turned-state.result.1 in
+    let meanwhile = c.replace.ensures.value ∙ c.replace-state.ensures.after in
+    let before = c.args.out.now.items.items in
+    let n : Mediator = record {
+      state = c.replace.new.dest;
+      parts = record c.turned-state.new.parts { pool = c.end.new.pool };
+    } in
+    let tags = due_tags n.parts.client in
+    along_kept of_turn m n d e c.args.memory.now c.turned-state.new.memory told tags before
+    c.push_asked.new.out.items.items
+    (c.push_asked.ensures.items ∙ ap (λ (xs : List Item). xs ++ asked_items tags) c.push.ensures.items
+    ∙ append_assoc before (item_of told) (asked_items tags))
+    (left_as (λ t r. GoesOn m.state m.parts d c.args.memory.now (item_of told) t r e c.turned-state.new.memory)
+    _ _ _ _ _ c.replace.ensures.after meanwhile c.end.ensures.given
+    (subst (λ t. GoesOn t m.parts d c.args.memory.now (item_of told) c.turned-state.result.0 c.turned-state.new.parts e
+    c.turned-state.new.memory) c.replace-state.ensures.value c.turned-state.ensures.shown))
+    (λ q lines given same.
+    reached_told of_turn q given d e lines c.turned-state.ensures.reached
+    (ap commands_in same ∙ told_commands told tags ∙ c.turned-state.ensures.commands))

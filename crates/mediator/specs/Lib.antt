@@ -1,0 +1,3 @@
+pub mod Mediator
+pub mod Emitted
+pub mod Couples

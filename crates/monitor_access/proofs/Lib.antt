@@ -1,0 +1,6 @@
+pub mod Commands
+pub mod Sides
+pub mod Taking
+pub mod Beside
+pub mod Viewed
+pub mod Seen

@@ -1,0 +1,60 @@
+use Rattle.std.proofs.Common.{◌∙◌}
+use Rattle.monitor_state.specs.Seen.{file_seen}
+use Rattle.monitor_access.proofs.Seen.{answered_alike, marked_alike}
+use Rattle.monitor_access.proofs.accesses.accessed.Goals as goal
+
+pub returns-in-Guest-clause-shown : goal.returns-in-Guest-clause-shown
+returns-in-Guest-clause-shown g c = rw c.in-Guest.is c.guest.ensures.shown
+
+pub returns-in-Guest-clause-answers : goal.returns-in-Guest-clause-answers
+returns-in-Guest-clause-answers g c = λ memory q shows.
+    answered_alike c.args.state c.args.parts.now (g.P.Ports.device c.args.ports.now) memory q c.args.access.now _
+    c.requires.fits shows (rw c.in-Guest.is c.guest.ensures.answered)
+
+pub returns-in-Guest-clause-marked : goal.returns-in-Guest-clause-marked
+returns-in-Guest-clause-marked g c = λ memory q shows.
+    rw c.in-Guest.is c.guest.ensures.mark
+    ∙ marked_alike q.device.file (file_seen c.args.state (g.P.Ports.device c.args.ports.now)) c.args.parts.now
+    c.args.access.now shows.file
+
+pub returns-in-Monitor-clause-shown : goal.returns-in-Monitor-clause-shown
+returns-in-Monitor-clause-shown g c = rw c.in-Monitor.is c.resting.ensures.shown
+
+pub returns-in-Monitor-clause-answers : goal.returns-in-Monitor-clause-answers
+returns-in-Monitor-clause-answers g c = λ memory q shows.
+    answered_alike c.args.state c.args.parts.now (g.P.Ports.device c.args.ports.now) memory q c.args.access.now _
+    c.requires.fits shows (rw c.in-Monitor.is c.resting.ensures.answered)
+
+pub returns-in-Monitor-clause-marked : goal.returns-in-Monitor-clause-marked
+returns-in-Monitor-clause-marked g c = λ memory q shows.
+    rw c.in-Monitor.is c.resting.ensures.mark
+    ∙ marked_alike q.device.file (file_seen c.args.state (g.P.Ports.device c.args.ports.now)) c.args.parts.now
+    c.args.access.now shows.file
+
+pub returns-in-Running-clause-shown : goal.returns-in-Running-clause-shown
+returns-in-Running-clause-shown g c = rw c.in-Running.is c.running.ensures.shown
+
+pub returns-in-Running-clause-answers : goal.returns-in-Running-clause-answers
+returns-in-Running-clause-answers g c = λ memory q shows.
+    answered_alike c.args.state c.args.parts.now (g.P.Ports.device c.args.ports.now) memory q c.args.access.now _
+    c.requires.fits shows (rw c.in-Running.is c.running.ensures.answered)
+
+pub returns-in-Running-clause-marked : goal.returns-in-Running-clause-marked
+returns-in-Running-clause-marked g c = λ memory q shows.
+    rw c.in-Running.is c.running.ensures.mark
+    ∙ marked_alike q.device.file (file_seen c.args.state (g.P.Ports.device c.args.ports.now)) c.args.parts.now
+    c.args.access.now shows.file
+
+pub returns-in-Raising-clause-shown : goal.returns-in-Raising-clause-shown
+returns-in-Raising-clause-shown g c = rw c.in-Raising.is c.raising.ensures.shown
+
+pub returns-in-Raising-clause-answers : goal.returns-in-Raising-clause-answers
+returns-in-Raising-clause-answers g c = λ memory q shows.
+    answered_alike c.args.state c.args.parts.now (g.P.Ports.device c.args.ports.now) memory q c.args.access.now _
+    c.requires.fits shows (rw c.in-Raising.is c.raising.ensures.answered)
+
+pub returns-in-Raising-clause-marked : goal.returns-in-Raising-clause-marked
+returns-in-Raising-clause-marked g c = λ memory q shows.
+    rw c.in-Raising.is c.raising.ensures.mark
+    ∙ marked_alike q.device.file (file_seen c.args.state (g.P.Ports.device c.args.ports.now)) c.args.parts.now
+    c.args.access.now shows.file

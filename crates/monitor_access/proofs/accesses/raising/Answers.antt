@@ -1,0 +1,33 @@
+use Rattle.std.proofs.Common.{refl, sym, ◌∙◌, subst, subst₂}
+use Rattle.monitor_state.specs.declared.state.State.TheVariants.{Raising}
+use Rattle.monitor_state.specs.Fits.{Fits}
+use Rattle.plain_drive.specs.Alike.{after_access}
+use Rattle.port_lease.specs.Sides.{view_held}
+use Rattle.monitor_state.specs.declared.parts.Parts.{Parts}
+use Rattle.monitor_state.specs.Seen.{Shows}
+use Rattle.monitor_access.proofs.Viewed.{viewed_shown}
+use Rattle.monitor_access.proofs.accesses.raising.Goals as goal
+
+pub returns-clause-fits : goal.returns-clause-fits
+returns-clause-fits g c =
+    let call = c.by_view-answer in
+    subst₂ (Fits (Raising call.new.side c.args.dummy c.args.plan)) (sym call.ensures.parts) (sym call.ensures.drive)
+    (c.accesses_keep_the_fit.ensures.raising c.args.access.now c.args.side call.new.side c.args.dummy c.args.plan
+    c.args.parts.now (g.P.Ports.device c.args.ports.now) c.requires.no_reset call.ensures.accessed c.requires.fits)
+
+pub returns-clause-shown : goal.returns-clause-shown
+returns-clause-shown g c = λ memory q shows none.
+    let call = c.by_view-answer in
+    let a = c.args.access.now in
+    let p = c.args.parts.now in
+    let d = g.P.Ports.device c.args.ports.now in
+    let e = g.P.Ports.device call.new.ports in
+    let before = Raising c.args.side c.args.dummy c.args.plan in
+    let behind = Raising call.new.side c.args.dummy c.args.plan in
+    let fits = c.accesses_keep_the_fit.ensures.raising a c.args.side call.new.side c.args.dummy c.args.plan p d
+    c.requires.no_reset call.ensures.accessed c.requires.fits in
+    subst (λ (r : Parts). Shows behind r e memory (after_access a q)) (sym call.ensures.parts)
+    (viewed_shown a before behind (view_held c.args.side) (view_held call.new.side) p d e
+    (record { file = refl; bus = refl; block = refl; refused = refl })
+    (record { file = refl; bus = refl; block = refl; refused = refl })
+    call.ensures.accessed.view call.ensures.seen fits.parts.state.2 memory q shows (sym call.ensures.mark ∙ none))

@@ -1,0 +1,6 @@
+pub mod Planned
+pub mod Ended
+pub mod Raised
+pub mod Unseen
+pub mod GuestsSteps
+pub mod Frames

@@ -1,0 +1,16 @@
+pub mod Told
+pub mod Beside
+pub mod Raised
+pub mod Begun
+pub mod InHand
+pub mod Read
+pub mod Scattered
+pub mod Piece
+pub mod OpeningArea
+pub mod Fresh
+pub mod Polls
+pub mod OpeningPolled
+pub mod Asked
+pub mod Collecting
+pub mod Taken
+pub mod OpeningLeft

@@ -1,0 +1,37 @@
+use Rattle.std.proofs.Common.{◌&&◌, Bool, refl, sym, ap, ◌∙◌, subst}
+use Rattle.port_lease.specs.Sides.{has_own}
+use Rattle.monitor_state.specs.declared.parts.Parts.{Parts}
+use Rattle.monitor_state.specs.declared.state.State.TheVariants.{Monitor}
+use Rattle.monitor_state.specs.Fits.{FitsArea}
+use Rattle.monitor_turn.specs.Turned.{HasTurned}
+use Rattle.monitor_turn.proofs.OpeningPolled.{opening_goes, opening_polled}
+use Rattle.monitor_turn.proofs.Polls.{goes, taken_before}
+use Rattle.monitor_turn.proofs.own.polled_opening.Goals as goal
+
+pub returns-in-Waiting-clause-turned : goal.returns-in-Waiting-clause-turned
+returns-in-Waiting-clause-turned g c =
+    let r = c.poll.ensures in
+    let fits = c.requires.fits in
+    let state = fits.parts.state in
+    let on = goes c.poll.result c.in-Waiting.is in
+    let runs = r.runs on in
+    let own = c.args.own in
+    let left = c.poll.new.self in
+    let d = g.P.Ports.device c.args.ports.now in
+    let e = g.P.Ports.device c.poll.new.ports in
+    opening_goes c.args.side c.poll.new.side own left _ c.args.parts.now d e fits
+    (r.own ∙ ap (λ (b : Bool). b && has_own c.args.side) on ∙ state.0) r.view r.job (r.goes on) runs r.unseen.sectors
+    (taken_before c.poll.result own left d e on state.4 r.answer r.job r.left fits.device runs)
+
+pub returns-in-Failed-clause-turned : goal.returns-in-Failed-clause-turned
+returns-in-Failed-clause-turned g c =
+    let r = c.in-Failed.ensures in
+    let t = c.opening_told-in-Failed in
+    let q = t.new.parts in
+    let p = c.args.parts.now in
+    let d = g.P.Ports.device c.args.ports.now in
+    let e = g.P.Ports.device c.poll.new.ports in
+    let made = opening_polled c.args.side c.poll.new.side c.args.own q.opening q.bitmap q.sector t.result p d e
+    c.requires.fits (subst FitsArea t.ensures.others t.ensures.area) r.own r.view (r.free refl) r.unseen.sectors
+    t.ensures.told in
+    subst (λ (q : Parts). HasTurned p d (Monitor c.poll.new.side) t.result q e) (sym t.ensures.others) made

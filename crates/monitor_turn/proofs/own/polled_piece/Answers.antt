@@ -1,0 +1,60 @@
+use Rattle.std.proofs.Common.{◌∷◌, ◌&&◌, Bool, refl, ap, ◌∙◌}
+use Rattle.mon_pool.proofs.Leases.{are_of_written}
+use Rattle.port_lease.specs.Sides.{has_own}
+use Rattle.monitor_state.specs.Leases.{leases_of_parts}
+use Rattle.monitor_turn.proofs.Piece.{piece_done, piece_failed, piece_goes}
+use Rattle.monitor_turn.proofs.Polls.{goes, taken_before}
+use Rattle.monitor_turn.proofs.own.polled_piece.Goals as goal
+
+pub returns-in-Waiting-clause-turned : goal.returns-in-Waiting-clause-turned
+returns-in-Waiting-clause-turned g c =
+    let r = c.poll.ensures in
+    let fits = c.requires.fits in
+    let state = fits.parts.state in
+    let p = c.args.parts.now in
+    let lease = c.args.lease in
+    let on = goes c.poll.result c.in-Waiting.is in
+    let runs = r.runs on in
+    let own = c.args.own in
+    let left = c.poll.new.self in
+    let d = g.P.Ports.device c.args.ports.now in
+    let e = g.P.Ports.device c.poll.new.ports in
+    rw c.bytes_mut.ensures.lease
+    (piece_goes c.args.side c.poll.new.side own left c.args.first c.args.count lease _ p d e fits refl refl
+    (λ leased. record {
+      held = are_of_written (lease ∷ leases_of_parts p) p.pool lease _ leased.held;
+      counted = leased.counted;
+    })
+    (r.own ∙ ap (λ (b : Bool). b && has_own c.args.side) on ∙ state.0) r.view r.job (r.goes on) runs r.unseen.sectors
+    (taken_before c.poll.result own left d e on state.4 r.answer r.job r.left fits.device runs))
+
+pub returns-in-Done-clause-turned : goal.returns-in-Done-clause-turned
+returns-in-Done-clause-turned g c =
+    let r = c.in-Done.ensures in
+    let p = c.args.parts.now in
+    let lease = c.args.lease in
+    let d = g.P.Ports.device c.args.ports.now in
+    let e = g.P.Ports.device c.poll.new.ports in
+    rw (c.hold.ensures.after, c.bytes_mut.ensures.lease)
+    (piece_done c.args.side c.poll.new.side c.args.own c.args.first c.args.count lease _ p d e c.requires.fits refl refl
+    (λ leased. record {
+      held = are_of_written (lease ∷ leases_of_parts p) p.pool lease _ leased.held;
+      counted = leased.counted;
+    })
+    r.own r.view (r.free refl) r.unseen.sectors)
+
+pub returns-in-Failed-clause-turned : goal.returns-in-Failed-clause-turned
+returns-in-Failed-clause-turned g c =
+    let r = c.in-Failed.ensures in
+    let p = c.args.parts.now in
+    let lease = c.args.lease in
+    let d = g.P.Ports.device c.args.ports.now in
+    let e = g.P.Ports.device c.poll.new.ports in
+    rw (c.give.ensures, c.bytes_mut.ensures.lease)
+    (piece_failed c.args.side c.poll.new.side c.args.own c.args.first c.args.count lease _ p d e c.requires.fits refl
+    refl
+    (λ leased. record {
+      held = are_of_written (lease ∷ leases_of_parts p) p.pool lease _ leased.held;
+      counted = leased.counted;
+    })
+    r.own r.view (r.free refl) r.unseen.sectors)

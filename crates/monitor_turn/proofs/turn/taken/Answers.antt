@@ -1,0 +1,22 @@
+use Rattle.std.proofs.Common.{sym, subst}
+use Rattle.ata_taskfile.specs.Device.{Device}
+use Rattle.monitor_state.specs.declared.state.State.TheVariants.{Monitor}
+use Rattle.monitor_state.specs.Fits.{Fits}
+use Rattle.streaming.specs.Monitor.{item_of}
+use Rattle.monitor_turn.proofs.Taken.{taken_fits, taken_goes_on}
+use Rattle.monitor_turn.proofs.turn.taken.Goals as goal
+
+pub monitor-requires : goal.monitor-requires
+monitor-requires g c =
+    let ok = c.in-Ok.ensures in
+    let p = c.args.parts.now in record {
+      fits = subst (λ (d : Device). Fits (Monitor c.in-Ok.side) p d) (sym ok.drive)
+          (taken_fits c.args.side c.in-Ok.side p _ c.requires.fits (sym ok.free)
+          (g.met.P.Ports.lawful c.args.ports.now).pairs ok.file ok.alone ok.lawful);
+    }
+
+pub returns-in-Ok-clause-shown : goal.returns-in-Ok-clause-shown
+returns-in-Ok-clause-shown g c =
+    let ok = c.in-Ok.ensures in
+    taken_goes_on c.args.side c.in-Ok.side c.args.parts.now _ _ _ _ _ _ (item_of c.monitor.result.1) _ (sym ok.free)
+    ok.file ok.same c.monitor.ensures.shown

@@ -1,0 +1,160 @@
+//! What is done in a turn.
+
+ghost use Rattle.std.specs.Prelude.{◌≡◌, ℕ, length, true, false, List};
+ghost use Rattle.ata_taskfile.specs.TaskFile.{holds_reset};
+ghost use Rattle.ata_taskfile.specs.Lawful.{is_in_reset};
+ghost use Rattle.ata_taskfile.specs.Device.{Device};
+ghost use Rattle.ata_taskfile.specs.Accesses.{Reaches};
+ghost use Rattle.port_lease.specs.Sides.{view_held};
+ghost use Rattle.monitor_state.specs.State.{is_opened};
+ghost use Rattle.monitor_state.specs.Fits.{Fits, IsBetweenEvents};
+ghost use Rattle.monitor_state.specs.GoesOn.{GoesOn};
+ghost use Rattle.streaming.specs.Client.{ClientTurned};
+ghost use Rattle.monitor_turn.specs.Opening.{OpeningFalls};
+ghost use Rattle.streaming.specs.Monitor.{item_of};
+ghost use Rattle.streaming.specs.Told.{MayTell};
+ghost use Rattle.monitor_turn.specs.Turned.{HasTurned, KeepsImage, TellsCommand, TellsReady};
+
+use crate::commands::command;
+use crate::own::{opening_next, polled};
+use ata_taskfile::Ports;
+use ata_taskfile::registers::{SRST, has_bit};
+use bm_dma::GuestMemory;
+use monitor_state::{Parts, State};
+use multiplex::{Turn, TurnState, choose};
+use port_lease::{GuestSide, MonitorSide, take};
+use schedule_text::Item;
+
+/// One turn: the state after it, and its line: a command that was given, good steps of the plain drive, or that
+/// opening has ended.
+///
+/// A block that is to be obtained is asked of the client. While opening hasn't ended less is left of it after each turn
+/// at which the drive isn't at work.
+pub fn turned<P: Ports>(
+    state: State,
+    parts: &mut Parts,
+    ports: &mut P,
+    memory: &mut GuestMemory,
+) -> (State, Option<Item>)
+    requires fits { Fits state parts.old (P.device ports.old) }
+    requires between { IsBetweenEvents state (P.device ports.old) }
+    ensures fits { Fits result.0 parts.new (P.device ports.new) }
+    ensures between { IsBetweenEvents result.0 (P.device ports.new) }
+    ensures commands { TellsCommand (P.device ports.old) (P.device ports.new) result.1 }
+    ensures ready { TellsReady parts.old parts.new result.1 }
+    ensures plan { MayTell result.1 }
+    ensures shown { GoesOn state parts.old (P.device ports.old) memory.old
+        (item_of result.1) result.0 parts.new (P.device ports.new) memory.new }
+    ensures client { ClientTurned parts.old.client parts.new.client }
+    ensures image { KeepsImage parts.old parts.new }
+    ensures progress { OpeningFalls state parts.old (P.device ports.old)
+        result.0 parts.new (P.device ports.new) }
+    ensures memory { length memory.new ≡ length memory.old }
+    ensures rest { P.rest ports.new ≡ P.rest ports.old }
+    ensures reached { (origin : Device) → Reaches origin (P.device ports.old)
+        → Reaches origin (P.device ports.new) }
+{
+    match state {
+        State::Guest(side) => taken(side, parts, ports, memory),
+        State::Monitor(side) => monitor(side, parts, ports, memory),
+        State::Running(side, own, purpose) => polled(side, own, purpose, parts, ports),
+        State::Raising(side, dummy, plan) => (State::Raising(side, dummy, plan), None),
+        State::Moving => unreachable!(),
+    }
+}
+
+// The guest's side: the monitor takes the drive, unless it is busy, and the turn goes on.
+fn taken<P: Ports>(
+    side: GuestSide,
+    parts: &mut Parts,
+    ports: &mut P,
+    memory: &mut GuestMemory,
+) -> (State, Option<Item>)
+    requires fits { Fits (State.Guest side) parts.old (P.device ports.old) }
+    ensures turned { HasTurned parts.old (P.device ports.old)
+        result.0 result.1 parts.new (P.device ports.new) }
+    ensures shown { GoesOn (State.Guest side) parts.old (P.device ports.old) memory.old
+        (item_of result.1) result.0 parts.new (P.device ports.new) memory.new }
+    ensures client { ClientTurned parts.old.client parts.new.client }
+    ensures memory { length memory.new ≡ length memory.old }
+    ensures rest { P.rest ports.new ≡ P.rest ports.old }
+    ensures reached { (origin : Device) → Reaches origin (P.device ports.old)
+        → Reaches origin (P.device ports.new) }
+{
+    match take(side, ports) {
+        Ok(side) => monitor(side, parts, ports, memory),
+        Err((side, _)) => (State::Guest(side), None),
+    }
+}
+
+// The monitor's side, on which no command of its own stands.
+fn monitor<P: Ports>(
+    side: MonitorSide,
+    parts: &mut Parts,
+    ports: &mut P,
+    memory: &mut GuestMemory,
+) -> (State, Option<Item>)
+    requires fits { Fits (State.Monitor side) parts.old (P.device ports.old) }
+    ensures turned { HasTurned parts.old (P.device ports.old)
+        result.0 result.1 parts.new (P.device ports.new) }
+    ensures shown { GoesOn (State.Monitor side) parts.old (P.device ports.old) memory.old
+        (item_of result.1) result.0 parts.new (P.device ports.new) memory.new }
+    ensures client { ClientTurned parts.old.client parts.new.client }
+    ensures progress { OpeningFalls (State.Monitor side) parts.old (P.device ports.old)
+        result.0 parts.new (P.device ports.new) }
+    ensures memory { length memory.new ≡ length memory.old }
+    ensures rest { P.rest ports.new ≡ P.rest ports.old }
+    ensures reached { (origin : Device) → Reaches origin (P.device ports.old)
+        → Reaches origin (P.device ports.new) }
+{
+    match choose(&state_of(&side, parts)) {
+        Turn::Opening => opening_next(side, parts, ports),
+        Turn::Restart => restarted(side, parts, ports),
+        Turn::Command => command(side, parts, ports, memory),
+        Turn::PollOwn | Turn::Take | Turn::Idle | Turn::Nothing => (State::Monitor(side), None),
+    }
+}
+
+// The view's reset ends, as a good step of the plain drive.
+fn restarted<P: Ports>(mut side: MonitorSide, parts: &Parts, ports: &mut P) -> (State, Option<Item>)
+    requires fits { Fits (State.Monitor side) parts.now (P.device ports.old) }
+    requires opened { is_opened parts.now ≡ true }
+    requires resets { is_in_reset (view_held side).file.phase ≡ true }
+    requires unheld { holds_reset (view_held side).file ≡ false }
+    ensures turned { HasTurned parts.now (P.device ports.old)
+        result.0 result.1 parts.now (P.device ports.new) }
+    ensures shown { (memory : List ℕ) → GoesOn (State.Monitor side)
+        parts.now (P.device ports.old) memory
+        (item_of result.1) result.0 parts.now (P.device ports.new) memory }
+    ensures unmoved { P.device ports.new ≡ P.device ports.old }
+    ensures rest { P.rest ports.new ≡ P.rest ports.old }
+    ensures reached { (origin : Device) → Reaches origin (P.device ports.old)
+        → Reaches origin (P.device ports.new) }
+{
+    guest_view::end_reset(&mut side);
+    (State::Monitor(side), Some(Item::Go(1)))
+}
+
+// What a turn goes by on the monitor's side.
+fn state_of(side: &MonitorSide, parts: &Parts) -> TurnState
+    ensures { let v = view_held side.now in result ≡ record {
+      own = false;
+      dummy = false;
+      opened = is_opened parts.now;
+      guest_side = false;
+      phase = v.file.phase;
+      reset_held = holds_reset v.file;
+      pending = v.file.pending;
+    } }
+{
+    let file = &side.view().file;
+    TurnState {
+        own: false,
+        dummy: false,
+        opened: parts.is_opened(),
+        guest_side: false,
+        phase: file.phase,
+        reset_held: has_bit(SRST, file.control),
+        pending: file.pending,
+    }
+}
