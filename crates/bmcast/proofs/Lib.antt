@@ -1,9 +1,12 @@
 pub mod Blocks
+pub mod Finding
 pub mod Reading
 pub mod Reporting
 pub mod Lines
 pub mod StopLaws
 pub mod Looks
+pub mod KnownOnce
+pub mod EventLaws
 pub mod PlayedLaws
 pub mod RunLaws
 pub mod ConsoleLaws

@@ -5,25 +5,25 @@ use Rattle.bm_host.specs.declared.Role.TheVariants.{Image, Disk, Schedule, Repor
 use Rattle.bm_host.specs.Outside.{Outside, IfTold, SameBytes, SameElsewhere}
 use Rattle.std.specs.List.{concat}
 use Rattle.fill_bitmap.specs.declared.area.Area.{Area}
-use Rattle.plain_drive.specs.Physical.{Physical}
 use Rattle.plain_drive.specs.Plain.{sectors_in}
-use Rattle.aoe_net.specs.Wire.{nothing_sent}
-use Rattle.streaming.specs.Network.{IsCourse}
-use Rattle.streaming.specs.World.{Scene, drive_over, started}
+use Rattle.streaming.specs.World.{IsSceneRun, Scene, drive_over, started, watched_over}
+use Rattle.streaming.proofs.Scenes.{drive_alone}
+use Rattle.streaming.proofs.Untouched.{scene_length, unnamed_stays}
+use Rattle.streaming.proofs.Whole.{scene_whole}
 use Rattle.block_writes.specs.Kept.{KeepsFilesBut, KeepsLooked}
 use Rattle.plain_drive.proofs.Sectors.{length-sectors, sectors_in-concat}
 use Rattle.plain_drive.proofs.Standing.{fresh_stands, durable_are_outcome}
+use Rattle.run_words.specs.Options.{Choice}
 use Rattle.schedule_text.specs.Report.{end_text}
-use Rattle.plain_run.specs.Entry.{Entry, history_text}
-use Rattle.plain_run.specs.Run.{IsDriveRun, HasPlainRun, drives}
+use Rattle.schedule_text.specs.declared.LineFault.{LineFault}
+use Rattle.plain_run.specs.Entry.{Entry, events_of, history_text}
+use Rattle.plain_run.specs.Run.{HasPlainRun}
 use Rattle.plain_run.proofs.Standing.{drives_run}
-use Rattle.plain_run.proofs.Sectors.{run_length}
-use Rattle.plain_run.proofs.Named.{only_named, run_whole}
 use Rattle.bmcast.specs.declared.streams.Streams.{Streams}
 use Rattle.bmcast.specs.Streams.{unread, Appends, KeepsSaid}
+use Rattle.bmcast.specs.Known.{IsRefused, IsTaken}
 use Rattle.bmcast.specs.Played.{Begun, HasPlayed, HasEnded, HasFailed, IsReported, IsStopped}
-use Rattle.bmcast.specs.Run.{WasRun, DoneRun, BadLineRun, RunIsBad, drives_over, sectors_of_disk}
-use Rattle.schedule_text.specs.declared.LineFault.{LineFault}
+use Rattle.bmcast.specs.Run.{WasRun, DoneRun, BadLineRun, RunIsBad, plain_over, sectors_of_disk}
 use Rattle.bmcast.specs.Files.{IsLeft, IsOpened, LeavesFiles}
 use Rattle.bmcast.specs.Kept.{KeepsAllFiles, KeepsFiles}
 use Rattle.bmcast.specs.Lengths.{HasLength, IsAreaOf}
@@ -37,14 +37,14 @@ abbrev pub begun_at : Scene → Outside → Begun
 begun_at scene outside = record { scene = scene; outside = outside }
 
 -- before the first line
-played_none : (s : Streams) (o : Outside) (p : Scene) → p.wire ≡ nothing_sent → IsOpened o → s.pending.items ≡ []
+played_none : (s : Streams) (o : Outside) (p : Scene) → IsOpened o → s.pending.items ≡ []
     → s.at ≡ s.end → HasPlayed (begun_at p o) s o p 1
-played_none s o p nothing ready none taken = record {
+played_none s o p ready none taken = record {
   entries = [];
   played = record {
-    run = refl;
     count = 0;
-    course = (nothing, refl);
+    run = (refl, refl);
+    known = tt;
     looked = record { most = omega arith; none = λ e. refl };
     said = Waits-none Report o s.pending.items none ready.report;
   };
@@ -60,41 +60,39 @@ played_none s o p nothing ready none taken = record {
 
 -- the schedule was played, and its report written
 pub reported : (s0 s1 s2 s3 : Streams) (o0 o1 o2 o3 : Outside) (before after : Scene) (number : ℕ)
-    → before.wire ≡ nothing_sent → IsOpened o0 → s0.pending.items ≡ [] → s0.at ≡ s0.end
+    → IsOpened o0 → s0.pending.items ≡ [] → s0.at ≡ s0.end
     → ((start : Begun) → HasPlayed start s0 o0 before 1 → HasEnded start s1 o1 after number)
     → KeepsFiles o0 o1 → KeepsLooked o1 o2 → KeepsLooked o2 o3
     → Appends s1 s2 o1 o2 (end_text number) → KeepsSaid s2 s3 o2 o3 → s3.pending.items ≡ []
     → IsReported o0 o3 before after
-reported s0 s1 s2 s3 o0 o1 o2 o3 before after number nothing ready none taken ended files looked unlooked end_said
+reported s0 s1 s2 s3 o0 o1 o2 o3 before after number ready none taken ended files looked unlooked end_said
     flushed empty =
-    let h = ended (begun_at before o0) (played_none s0 o0 before nothing ready none taken) in
+    let h = ended (begun_at before o0) (played_none s0 o0 before ready none taken) in
     record {
       entries = h.entries;
-      run = h.played.run;
       count = h.played.count;
-      course = subst (λ told. IsCourse after.image told h.entries after.wire h.played.count) (files Image (λ e. cc))
-          h.played.course;
+      run = subst (λ told. IsSceneRun told before h.entries after h.played.count) (files Image (λ e. cc)) h.played.run;
       looked = looks_on h.played.count o0 o1 o3 (unlooked ∙ looked) h.played.looked;
-      schedule = IfTold-same _ (files Schedule (λ e. cc)) h.schedule;
+      schedule = IfTold-same _ (files Schedule (λ e. cc))
+          (IfTold-weaker (o1.told Schedule) _ _ (λ text whole. (whole, h.played.known)) h.schedule);
       report = subst (λ n. IfTold (o3.told Report) (λ text. text ≡ history_text h.entries ++ end_text n)) (sym h.length)
           (Waits-all Report o3 s3.pending.items (history_text h.entries ++ end_text number) empty
           (flushed (history_text h.entries ++ end_text number) (end_said (history_text h.entries) h.played.said)));
     }
 
--- the schedule was played to its first bad line, and the report before it is written
+-- the schedule was played to its first line that is refused, and the report before it is written
 pub stopped : (s0 s1 : Streams) (o0 o1 : Outside) (before after : Scene) (number : ℕ) (kind : LineFault)
-    → before.wire ≡ nothing_sent → IsOpened o0 → s0.pending.items ≡ [] → s0.at ≡ s0.end
+    → IsOpened o0 → s0.pending.items ≡ [] → s0.at ≡ s0.end
     → ((start : Begun) → HasPlayed start s0 o0 before 1 → HasFailed start s1 o1 after number kind)
     → KeepsFiles o0 o1 → s1.pending.items ≡ []
     → IsStopped o0 o1 before after number kind
-stopped s0 s1 o0 o1 before after number kind nothing ready none taken failed files empty =
-    let h = failed (begun_at before o0) (played_none s0 o0 before nothing ready none taken) in
+stopped s0 s1 o0 o1 before after number kind ready none taken failed files empty =
+    let h = failed (begun_at before o0) (played_none s0 o0 before ready none taken) in
     record {
       entries = h.entries;
-      run = h.played.run;
       count = h.played.count;
-      course = subst (λ told. IsCourse after.image told h.entries after.wire h.played.count) (files Image (λ e. cc))
-          h.played.course;
+      run = subst (λ told. IsSceneRun told before h.entries after h.played.count) (files Image (λ e. cc)) h.played.run;
+      looked = h.played.looked;
       schedule = IfTold-same _ (files Schedule (λ e. cc)) h.fails;
       report = Waits-all Report o1 s1.pending.items (history_text h.entries) empty h.played.said;
     }
@@ -109,44 +107,32 @@ read_disk = (λ e. cc, λ e. cc)
 read_schedule : IsLeft status.Done Schedule
 read_schedule = (λ e. cc, λ e. cc)
 
--- the world was started over the disk's sectors, with a guest's memory of so many zeros and an image of so many
--- sectors
-pub record IsStarted (memory image : ℕ) (o : Outside) (before : Scene) : Type 0 where
-  pub began : before ≡ started memory image before.drive.kept.durable
+-- the world was started over the disk's sectors, with the block and memory of a choice and an image of so many sectors
+pub record IsStarted (choice : Choice) (image : ℕ) (o : Outside) (before : Scene) : Type 0 where
+  pub began : before ≡ started choice.sizes.block choice.sizes.memory image before.drive.kept.durable
   pub sectors : All (λ sector. length sector ≡ 512) before.drive.kept.durable
   pub disk : IfTold (o.told Disk) (λ disk. before.drive.kept.durable ≡ sectors_of_disk disk)
-  pub empty : image ≡ 0
   pub image_length : HasLength Image o (512 * image)
 
 -- the world was started over the files of this area
-pub started_over : (memory : ℕ) (area : Area) (o1 o2 : Outside) (before : Scene)
-    → LeavesFiles status.Done o1 o2 → IsAreaOf area o1 → area.image ≡ 0
-    → before ≡ started memory area.image before.drive.kept.durable
+pub started_over : (choice : Choice) (area : Area) (o1 o2 : Outside) (before : Scene)
+    → LeavesFiles status.Done o1 o2 → IsAreaOf choice area o1
+    → before ≡ started area.block choice.sizes.memory area.image before.drive.kept.durable
     → All (λ sector. length sector ≡ 512) before.drive.kept.durable
     → IfTold (o2.told Disk) (λ disk. before.drive.kept.durable ≡ sectors_in area.sectors disk)
-    → IsStarted memory area.image o2 before
-started_over memory area o1 o2 before left is empty began sectors disk = record {
-  began = began;
+    → IsStarted choice area.image o2 before
+started_over choice area o1 o2 before left is began sectors disk = record {
+  began = subst (λ block. before ≡ started block choice.sizes.memory area.image before.drive.kept.durable)
+      is.block began;
   sectors = sectors;
   disk = IfTold-both (o2.told Disk) _ _ _
       (λ bytes long made. made ∙ ap (λ n. sectors_in n bytes) (count bytes long))
       (IfTold-same _ (sym (left Disk read_disk)) is.disk) disk;
-  empty = empty;
   image_length = IfTold-same _ (sym (left Image read_image)) is.image;
 }
   where
     count : (bytes : List ℕ) → length bytes ≡ 512 * area.sectors → area.sectors ≡ length bytes / 512
     count bytes long = omega (long, arith)
-
--- the plain drive that began with these sectors has the run of the physical one
-beside : (memory : ℕ) (before after : Physical) (entries : List Entry) → before ≡ drive_over memory before.kept.durable
-    → IsDriveRun before entries after
-    → HasPlainRun (drives_over memory before.kept.durable).plain (drive_over memory before.kept.durable) entries after
-beside memory before after entries began run =
-    let sectors = before.kept.durable in
-    drives_run (drives_over memory sectors).plain (drive_over memory sectors) after entries
-    (fresh_stands sectors 64 (length sectors) (replicate memory 0))
-    (subst (λ start. IsDriveRun start entries after) began run)
 
 -- out has the sectors that were durable at the end
 out_sectors : (out : List ℕ) (sectors : List (List ℕ)) → All (λ sector. length sector ≡ 512) sectors
@@ -157,98 +143,109 @@ out_sectors out sectors whole written =
     rw (count, written) (sectors_in-concat sectors whole)
 
 -- what was run from the world that was started over the disk
-module _ (memory image : ℕ) (o1 o2 o3 : Outside) (before after : Scene) (entries : List Entry) (count : ℕ)
-    (left : LeavesFiles status.Done o1 o2) (same : SameBytes o2 o3) (was : IsStarted memory image o2 before)
-    (run : IsDriveRun before.drive entries after.drive) (stays : after.image ≡ before.image)
-    (course : IsCourse after.image (o3.told Image) entries after.wire count) where
-  drive_began : before.drive ≡ drive_over memory before.drive.kept.durable
-  drive_began = ap (λ (scene : Scene). scene.drive) was.began
+module _ (choice : Choice) (image : ℕ) (o1 o2 o3 : Outside) (before after : Scene) (entries : List Entry) (count : ℕ)
+    (left : LeavesFiles status.Done o1 o2) (same : SameBytes o2 o3) (was : IsStarted choice image o2 before)
+    (run : IsSceneRun (o3.told Image) before entries after count) where
+  run_since : IsSceneRun (o1.told Image)
+      (started choice.sizes.block choice.sizes.memory image before.drive.kept.durable) entries after count
+  run_since =
+      subst (λ (start : Scene). IsSceneRun (o1.told Image) start entries after count) was.began
+      (subst (λ told. IsSceneRun told before entries after count) (same.told Image ∙ left Image read_image) run)
 
-  course_since : IsCourse image (o1.told Image) entries after.wire count
-  course_since =
-      subst (λ n. IsCourse n (o1.told Image) entries after.wire count)
-      (stays ∙ ap (λ (scene : Scene). scene.image) was.began)
-      (subst (λ told. IsCourse after.image told entries after.wire count) (same.told Image ∙ left Image read_image)
-      course)
+  -- without an image there is no monitor, and the plain drive that began with the sectors has the physical one's run
+  plain_since : image ≡ 0 → HasPlainRun (plain_over choice.sizes.memory before.drive.kept.durable)
+      (drive_over choice.sizes.memory before.drive.kept.durable) entries after.drive
+  plain_since empty =
+      let sectors = before.drive.kept.durable in
+      let memory = choice.sizes.memory in
+      let start = started choice.sizes.block memory image sectors in
+      drives_run (plain_over memory sectors) (drive_over memory sectors) after.drive entries
+      (fresh_stands sectors 64 (length sectors) (replicate memory 0))
+      (drive_alone (o1.told Image) start after entries count run_since (ap (watched_over choice.sizes.block) empty))
 
-  abbrev was_run : WasRun memory o1
-  was_run =
-      let plain = beside memory before.drive after.drive entries drive_began run in
-      record {
-        sectors = before.drive.kept.durable;
-        entries = entries;
-        end = drives plain.plain after.drive;
-        stands = plain.stands;
-        read = IfTold-same _ (left Disk read_disk) was.disk;
-        run = plain.run;
-        image = image;
-        empty = was.empty;
-        image_length = IfTold-same _ (left Image read_image) was.image_length;
-        wire = after.wire;
-        count = count;
-        course = course_since;
-      }
+  abbrev was_run : WasRun choice o1
+  was_run = record {
+    sectors = before.drive.kept.durable;
+    image = image;
+    entries = entries;
+    read = IfTold-same _ (left Disk read_disk) was.disk;
+    image_length = IfTold-same _ (left Image read_image) was.image_length;
+    end = after;
+    count = count;
+    run = run_since;
+    plain = plain_since;
+  }
+
+  image_began : before.image ≡ image
+  image_began = ap (λ (scene : Scene). scene.image) was.began
 
 -- all steps of a run from the moment at which image and disk are known
-pub done : (o1 o2 o3 o4 o5 : Outside) (before after : Scene) (memory image : ℕ)
+pub done : (o1 o2 o3 o4 o5 : Outside) (before after : Scene) (choice : Choice) (image : ℕ)
     → LeavesFiles status.Done o1 o2 → SameBytes o2 o3 → KeepsFiles o3 o4 → KeepsFilesBut Out o4 o5
     → o3.looked ≡ o1.looked → KeepsLooked o4 o5
-    → IsStarted memory image o2 before → after.image ≡ before.image → IsReported o3 o4 before after
+    → IsStarted choice image o2 before → IsReported o3 o4 before after
     → IfTold (o5.told Out) (λ out. out ≡ concat after.drive.kept.durable)
-    → DoneRun memory o1 o5
-done o1 o2 o3 o4 o5 before after memory image left loaded played written unlooked kept was stays told out =
-    let began = drive_began memory image o1 o2 o3 before after told.entries told.count left loaded was told.run stays
-    told.course in
+    → DoneRun choice o1 o5
+done o1 o2 o3 o4 o5 before after choice image left loaded played written unlooked kept was told out =
     let sectors = before.drive.kept.durable in
-    let plain = beside memory before.drive after.drive told.entries began told.run in
-    let run = subst (λ start. IsDriveRun start told.entries after.drive) began told.run in
-    let whole = run_whole 64 sectors (replicate memory 0) told.entries after.drive was.sectors run in
-    let count = run_length before.drive after.drive told.entries told.run in
+    let block = choice.sizes.block in
+    let memory = choice.sizes.memory in
+    let run = run_since choice image o1 o2 o3 before after told.entries told.count left loaded was told.run in
+    let whole = scene_whole (o1.told Image) block memory image sectors told.entries after told.count was.sectors run in
+    let many = scene_length (o1.told Image) (started block memory image sectors) after told.entries told.count run in
+    let plain = plain_since choice image o1 o2 o3 before after told.entries told.count left loaded was told.run in
     record {
-      was = was_run memory image o1 o2 o3 before after told.entries told.count left loaded was told.run stays
-          told.course;
-      schedule = IfTold-same _ (loaded.told Schedule ∙ left Schedule read_schedule) told.schedule;
+      was = was_run choice image o1 o2 o3 before after told.entries told.count left loaded was told.run;
+      schedule = IfTold-same _ (loaded.told Schedule ∙ left Schedule read_schedule)
+          (subst (λ n. IfTold (o3.told Schedule) (λ text. IsTaken n text (events_of told.entries)))
+          (image_began choice image o1 o2 o3 before after told.entries told.count left loaded was told.run)
+          told.schedule);
       report = IfTold-same _ (sym (written Report (λ e. cc))) told.report;
       out = IfTold-weaker (o5.told Out) _ _ (λ bytes e. out_sectors bytes after.drive.kept.durable whole e) out;
       whole = IfTold-weaker (o5.told Out) _ _
-          (λ bytes e. ap length e ∙ length-sectors after.drive.kept.durable whole ∙ ap (λ n. 512 * n) count) out;
-      outcome = durable_are_outcome after.drive plain.plain plain.stands;
+          (λ bytes e. ap length e ∙ length-sectors after.drive.kept.durable whole ∙ ap (λ n. 512 * n) many) out;
+      outcome = λ empty. durable_are_outcome after.drive (plain empty).plain (plain empty).stands;
       looked = looks_since told.count o1 o3 o5 unlooked (looks_on told.count o3 o4 o5 kept told.looked);
-      unnamed = only_named 64 sectors (replicate memory 0) told.entries after.drive was.sectors run;
+      unnamed = λ s unnamed. unnamed_stays (o1.told Image) block memory image sectors told.entries after told.count s
+          was.sectors run unnamed;
     }
 
--- the same up to a bad line
-pub bad_line : (o1 o2 o3 o4 : Outside) (before after : Scene) (memory image number : ℕ) (kind : LineFault)
-    → LeavesFiles status.Done o1 o2 → IsOpened o2 → SameBytes o2 o3 → KeepsFiles o3 o4
-    → IsStarted memory image o2 before → after.image ≡ before.image → IsStopped o3 o4 before after number kind → BadLineRun memory o1 o4 number kind
-bad_line o1 o2 o3 o4 before after memory image number kind left opened loaded played was stays told = record {
-  was = was_run memory image o1 o2 o3 before after told.entries told.count left loaded was told.run stays told.course;
-  schedule = IfTold-same _ (loaded.told Schedule ∙ left Schedule read_schedule) told.schedule;
+-- the same up to a line that is refused
+pub bad_line : (o1 o2 o3 o4 : Outside) (before after : Scene) (choice : Choice) (image number : ℕ) (kind : LineFault)
+    → LeavesFiles status.Done o1 o2 → IsOpened o2 → SameBytes o2 o3 → KeepsFiles o3 o4 → o3.looked ≡ o1.looked
+    → IsStarted choice image o2 before → IsStopped o3 o4 before after number kind
+    → BadLineRun choice o1 o4 number kind
+bad_line o1 o2 o3 o4 before after choice image number kind left opened loaded played unlooked was told = record {
+  was = was_run choice image o1 o2 o3 before after told.entries told.count left loaded was told.run;
+  schedule = IfTold-same _ (loaded.told Schedule ∙ left Schedule read_schedule)
+      (subst (λ n. IfTold (o3.told Schedule) (λ text. IsRefused n text (events_of told.entries) number kind))
+      (image_began choice image o1 o2 o3 before after told.entries told.count left loaded was told.run)
+      told.schedule);
   report = told.report;
   out = IfTold-same _ (sym (played Out (λ e. cc) ∙ loaded.told Out)) opened.out;
+  looked = looks_since told.count o1 o3 o4 unlooked told.looked;
 }
 
 -- the same from the start of the run, when no file had changed and nothing was looked at
-abbrev was_run_from : (memory : ℕ) (o0 o1 : Outside) → KeepsAllFiles o0 o1 → WasRun memory o1 → WasRun memory o0
-was_run_from memory o0 o1 kept was = record {
+abbrev was_run_from : (choice : Choice) (o0 o1 : Outside) → KeepsAllFiles o0 o1 → WasRun choice o1 → WasRun choice o0
+was_run_from choice o0 o1 kept was = record {
   sectors = was.sectors;
-  entries = was.entries;
-  end = was.end;
-  stands = was.stands;
-  read = IfTold-same _ (kept Disk) was.read;
-  run = was.run;
   image = was.image;
-  empty = was.empty;
+  entries = was.entries;
+  read = IfTold-same _ (kept Disk) was.read;
   image_length = IfTold-same _ (kept Image) was.image_length;
-  wire = was.wire;
+  end = was.end;
   count = was.count;
-  course = subst (λ told. IsCourse was.image told was.entries was.wire was.count) (kept Image) was.course;
+  run = subst (λ told. IsSceneRun told
+      (started choice.sizes.block choice.sizes.memory was.image was.sectors) was.entries was.end was.count)
+      (kept Image) was.run;
+  plain = was.plain;
 }
 
-pub done_from : (memory : ℕ) (o0 o1 o5 : Outside) → KeepsAllFiles o0 o1 → KeepsLooked o0 o1 → DoneRun memory o1 o5
-    → DoneRun memory o0 o5
-done_from memory o0 o1 o5 kept unlooked done = record {
-  was = was_run_from memory o0 o1 kept done.was;
+pub done_from : (choice : Choice) (o0 o1 o5 : Outside) → KeepsAllFiles o0 o1 → KeepsLooked o0 o1 → DoneRun choice o1 o5
+    → DoneRun choice o0 o5
+done_from choice o0 o1 o5 kept unlooked done = record {
+  was = was_run_from choice o0 o1 kept done.was;
   schedule = IfTold-same _ (kept Schedule) done.schedule;
   report = done.report;
   out = done.out;
@@ -258,20 +255,21 @@ done_from memory o0 o1 o5 kept unlooked done = record {
   unnamed = done.unnamed;
 }
 
-pub bad_line_since : (memory : ℕ) (o0 o1 o4 : Outside) (number : ℕ) (kind : LineFault) → KeepsAllFiles o0 o1
-    → BadLineRun memory o1 o4 number kind → BadLineRun memory o0 o4 number kind
-bad_line_since memory o0 o1 o4 number kind kept bad = record {
-  was = was_run_from memory o0 o1 kept bad.was;
+pub bad_line_since : (choice : Choice) (o0 o1 o4 : Outside) (number : ℕ) (kind : LineFault) → KeepsAllFiles o0 o1
+    → KeepsLooked o0 o1 → BadLineRun choice o1 o4 number kind → BadLineRun choice o0 o4 number kind
+bad_line_since choice o0 o1 o4 number kind kept unlooked bad = record {
+  was = was_run_from choice o0 o1 kept bad.was;
   schedule = IfTold-same _ (kept Schedule) bad.schedule;
   report = bad.report;
   out = bad.out;
+  looked = looks_since bad.was.count o0 o1 o4 unlooked bad.looked;
 }
 
 -- the same after the line on Console
 pub bad_line_told : (words : List (List ℕ)) (o0 o4 o5 : Outside) (number : ℕ) (kind : LineFault)
-    → SameElsewhere Console o4 o5
+    → SameElsewhere Console o4 o5 → KeepsLooked o4 o5
     → RunIsBad words o0 o4 number kind → RunIsBad words o0 o5 number kind
-bad_line_told words o0 o4 o5 number kind kept bad = record {
+bad_line_told words o0 o4 o5 number kind kept unlooked bad = record {
   choice = bad.choice;
   says = bad.says;
   holds = record {
@@ -279,5 +277,6 @@ bad_line_told words o0 o4 o5 number kind kept bad = record {
     schedule = bad.holds.schedule;
     report = IfTold-same _ (sym (kept.told Report (λ e. cc))) bad.holds.report;
     out = IfTold-same _ (sym (kept.told Out (λ e. cc))) bad.holds.out;
+    looked = looks_on bad.holds.was.count o0 o4 o5 unlooked bad.holds.looked;
   };
 }

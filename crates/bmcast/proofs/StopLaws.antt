@@ -1,6 +1,6 @@
 -- What several calls owe of the outside, one after the other.
 use Rattle.std.proofs.Common.{◌≡◌, ◌≢◌, ◌≤◌, ◌⊎◌, ◌++◌, ℕ, List, inl, inr, refl, sym, subst, ◌∙◌, arith}
-use Rattle.std.specs.Prelude.{Result, Err}
+use Rattle.std.specs.Prelude.{Result, Ok, Err}
 use Rattle.schedule_text.specs.declared.LineFault.{LineFault}
 use Rattle.bm_host.specs.declared.Role.{Role}
 use Rattle.bm_host.specs.Outside.{Outside, SameElsewhere, SameCounts, Rose, Reads, Writes, Becomes, AppendsPrefix}
@@ -8,7 +8,7 @@ use Rattle.bm_host.specs.declared.Role.TheVariants.{Console}
 use Rattle.bm_host.proofs.OutsideLaws.{same_counts_trans, only_rose_after, same_role}
 use Rattle.bmcast.specs.declared.stop.Stop.{Stop}
 use Rattle.bmcast.specs.declared.stop.Stop.TheVariants as stop
-use Rattle.bmcast.specs.Stop.{Stopped, OnBadLine, UnlessFault, status_of}
+use Rattle.bmcast.specs.Stop.{IsCounted, Stopped, OnBadLine, UnlessFault, status_of}
 use Rattle.bmcast.specs.Status.{OnlyConsole, HasItsCause, ConsoleSays, OnBadLineStatus, UnlessDone}
 use Rattle.bmcast.specs.Files.{IsLeft, LeavesFiles}
 use Rattle.bmcast.specs.Kept.{SameConsole}
@@ -20,6 +20,11 @@ pub stopped_after : (a b c : Outside) (why : Stop) → SameCounts a b → Stoppe
 stopped_after a b c (stop.ReadFault role) same then = only_rose_after Reads role a b c same then
 stopped_after a b c (stop.WriteFault role) same then = only_rose_after Writes role a b c same then
 stopped_after a b c other same then = same_counts_trans a b c same then
+
+pub counted_after : {T : Type 0} (a b c : Outside) (result : Result T Stop) → SameCounts a b → IsCounted result b c
+    → IsCounted result a c
+counted_after a b c (Ok x) same then = same_counts_trans a b c same then
+counted_after a b c (Err why) same then = stopped_after a b c why same then
 
 -- calls that raised no count, and then Console
 console_after : (a b c : Outside) → SameCounts a b → OnlyConsole b c → OnlyConsole a c
@@ -116,7 +121,6 @@ bad_line_status T other P Q step p = tt
 console_not_left : (why : Stop) → IsLeft (status_of why) Console → ⊥
 console_not_left stop.Usage left = left refl
 console_not_left (stop.Unsuitable reason) left = left refl
-console_not_left stop.NotYet left = left refl
 console_not_left (stop.ReadFault role) left = left.0
 console_not_left other left = left
 

@@ -21,7 +21,6 @@ abbrev pub IsLeft : Status → Role → Type 0
 IsLeft status.Done role = (role ≢ Report) × (role ≢ Out)
 IsLeft status.Usage role = role ≢ Console
 IsLeft (status.Unsuitable why) role = role ≢ Console
-IsLeft status.NotYet role = role ≢ Console
 IsLeft (status.BadLine number fault) role = IsRead role
 IsLeft (status.ReadFault failed) role = IsRead role × (role ≢ failed)
 IsLeft (status.WriteFault failed) role = IsRead role

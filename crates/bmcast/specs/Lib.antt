@@ -4,6 +4,7 @@ pub mod Status
 pub mod StatusLine
 pub mod Chosen
 pub mod Lengths
+pub mod Known
 pub mod Files
 pub mod Owed
 -- Inner: what its steps owe one another, which no clause of it cites.

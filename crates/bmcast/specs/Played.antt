@@ -1,5 +1,5 @@
 -- Inner: the events that were read and done so far, and a schedule that was played.
-use Rattle.std.specs.Prelude.{ℕ, ◌≡◌, ◌≢◌, ◌+◌, ◌⊎◌, List, length}
+use Rattle.std.specs.Prelude.{ℕ, ◌≡◌, ◌≢◌, ◌+◌, ◌⊎◌, List, length, None}
 use Rattle.bm_host.specs.declared.Role.TheVariants.{Image, Schedule, Report}
 use Rattle.bm_host.specs.Outside.{Outside, IfTold}
 use Rattle.schedule_text.specs.declared.Event.{Event}
@@ -7,30 +7,34 @@ use Rattle.schedule_text.specs.declared.Event.TheVariants as event
 use Rattle.schedule_text.specs.declared.TheConstants.{LAST_LINE}
 use Rattle.schedule_text.specs.declared.LineFault.{LineFault}
 use Rattle.schedule_text.specs.Schedule.{HasNoEnd, HasRead, IsEnded, IsSchedule}
-use Rattle.schedule_text.specs.BadLine.{FailsAt}
 use Rattle.plain_run.specs.Entry.{Entry, events_of, history_text, report_text}
-use Rattle.plain_run.specs.Run.{IsDriveRun}
-use Rattle.image_server.specs.Serving.{LooksAtMost}
-use Rattle.streaming.specs.Network.{IsCourse}
-use Rattle.streaming.specs.World.{Scene}
+use Rattle.image_server.specs.Serving.{HasImage, LooksAtMost}
+use Rattle.streaming.specs.World.{Scene, IsSceneRun}
+use Rattle.bmcast.specs.Known.{IsRefused, IsTaken, KnowsAll}
 use Rattle.bmcast.specs.declared.play.Progress.{Progress}
 use Rattle.bmcast.specs.declared.play.Progress.TheVariants as progress
 use Rattle.bmcast.specs.declared.streams.Streams.{Streams}
 use Rattle.bmcast.specs.declared.streams.Fetched.TheVariants as fetched
 use Rattle.bmcast.specs.Streams.{unread, Fetches, Said}
 
+-- a world whose image has so many sectors, all of which are there; without an image it has no monitor
+pub record IsOver (sectors : ℕ) (o : Outside) (scene : Scene) : Type 0 where
+  pub image : scene.image ≡ sectors
+  pub there : HasImage sectors o
+  pub alone : sectors ≡ 0 → scene.watched ≡ None
+
 -- where a run began: what the world was then, and its outside
 pub record Begun : Type 0 where
   pub scene : Scene
   pub outside : Outside
 
--- these entries were done and reported, and led from the start to now; so many sectors of the image went into replies,
--- and no more of it was looked at
+-- these entries were done and reported, their events are known, and they led from the start to now; so many sectors of
+-- the image went into replies, and no more of it was looked at
 pub record IsPlayed (start : Begun) (s : Streams) (o : Outside) (now : Scene)
     (entries : List Entry) : Type 0 where
-  pub run : IsDriveRun start.scene.drive entries now.drive
   pub count : ℕ
-  pub course : IsCourse now.image (o.told Image) entries now.wire count
+  pub run : IsSceneRun (o.told Image) start.scene entries now count
+  pub known : KnowsAll start.scene.image (events_of entries)
   pub looked : LooksAtMost count start.outside o
   pub said : Said s o (history_text entries)
 
@@ -85,12 +89,13 @@ pub record HasEnded (start : Begun) (s : Streams) (o : Outside) (now : Scene)
   pub schedule : IfTold (o.told Schedule) (λ text. IsSchedule text (events_of entries))
   pub length : length entries ≡ number
 
--- the events before the first bad line were read, done and reported
+-- the events before the first line that is refused were read, done and reported
 pub record HasFailed (start : Begun) (s : Streams) (o : Outside) (now : Scene) (number : ℕ)
     (kind : LineFault) : Type 0 where
   pub entries : List Entry
   pub played : IsPlayed start s o now entries
-  pub fails : IfTold (o.told Schedule) (λ text. FailsAt text (events_of entries) number kind)
+  pub fails : IfTold (o.told Schedule)
+      (λ text. IsRefused start.scene.image text (events_of entries) number kind)
 
 -- after a line of this number the schedule goes on, or it has ended
 abbrev pub Progresses : Progress → Begun → Streams → Outside → Scene → ℕ → Type 0
@@ -100,19 +105,19 @@ Progresses progress.Ended start s o now number = HasEnded start s o now number
 -- the schedule was played to its end, from one scene of the world to another, and the report is its text
 pub record IsReported (old new : Outside) (start now : Scene) : Type 0 where
   pub entries : List Entry
-  pub run : IsDriveRun start.drive entries now.drive
   pub count : ℕ
-  pub course : IsCourse now.image (old.told Image) entries now.wire count
+  pub run : IsSceneRun (old.told Image) start entries now count
   pub looked : LooksAtMost count old new
-  pub schedule : IfTold (old.told Schedule) (λ text. IsSchedule text (events_of entries))
+  pub schedule : IfTold (old.told Schedule) (λ text. IsTaken start.image text (events_of entries))
   pub report : IfTold (new.told Report) (λ text. text ≡ report_text entries)
 
--- the schedule was played up to its first bad line, and the report is the text of the events before it
+-- the schedule was played up to its first line that is refused, and the report is the text of the events before it
 pub record IsStopped (old new : Outside) (start now : Scene) (number : ℕ)
     (kind : LineFault) : Type 0 where
   pub entries : List Entry
-  pub run : IsDriveRun start.drive entries now.drive
   pub count : ℕ
-  pub course : IsCourse now.image (old.told Image) entries now.wire count
-  pub schedule : IfTold (old.told Schedule) (λ text. FailsAt text (events_of entries) number kind)
+  pub run : IsSceneRun (old.told Image) start entries now count
+  pub looked : LooksAtMost count old new
+  pub schedule : IfTold (old.told Schedule)
+      (λ text. IsRefused start.image text (events_of entries) number kind)
   pub report : IfTold (new.told Report) (λ text. text ≡ history_text entries)

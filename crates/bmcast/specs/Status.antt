@@ -4,7 +4,7 @@ use Rattle.run_words.specs.Options.{Choice, Says}
 use Rattle.schedule_text.specs.declared.LineFault.{LineFault}
 use Rattle.bmcast.specs.Chosen.{ChooseARun, Chooses}
 use Rattle.bmcast.specs.Files.{IsOpened, IsUnopened}
-use Rattle.bmcast.specs.Lengths.{CanRun, IsNotYet, IsUnsuitable}
+use Rattle.bmcast.specs.Lengths.{CanRun, IsUnsuitable}
 use Rattle.bm_host.specs.declared.Role.{Role}
 use Rattle.bm_host.specs.declared.Role.TheVariants.{Image, Disk, Schedule, Report, Out, Console}
 use Rattle.bm_host.specs.Outside.{Outside, Rose, SameCounts, Becomes, AppendsPrefix}
@@ -62,14 +62,12 @@ exit_code (status.BadLine number fault) = 3
 exit_code (status.ReadFault role) = 4
 exit_code (status.WriteFault role) = 5
 exit_code status.NoMemory = 6
-exit_code status.NotYet = 7
 
--- why a status comes, of the words and of the lengths, in the order in which these are looked at; no
--- other role than these has a fault that ends a run
+-- why a status comes, of the words and of what is found in image and disk, in the order in which these are looked at;
+-- no other role than these has a fault that ends a run
 abbrev pub HasItsReason : Status → List (List ℕ) → Outside → Type 0
 HasItsReason status.Usage words o = (choice : Choice) → ¬ Says words choice
 HasItsReason (status.Unsuitable reason) words o = Chooses words o (IsUnsuitable reason)
-HasItsReason status.NotYet words o = Chooses words o IsNotYet
 HasItsReason (status.ReadFault Image) words o = ChooseARun words
 HasItsReason (status.ReadFault Disk) words o = ChooseARun words
 HasItsReason (status.ReadFault Schedule) words o = Chooses words o CanRun
@@ -86,17 +84,26 @@ HasItsReason status.NoMemory words o = Chooses words o CanRun
 HasItsReason (status.BadLine number fault) words o = Chooses words o CanRun
 HasItsReason status.Done words o = Chooses words o CanRun
 
--- how far a run has come that ends so: the lengths stop it before Report and Out are opened, a fault
--- of Disk then too, or behind good lengths when these are open; want of memory comes then alone
+-- how far a run has come that ends so: what is found in image and disk stops it before Report and Out are opened, a
+-- fault of Disk then too, or behind good files when these are open; want of memory comes then alone. A fault of Image
+-- comes before they are opened, or behind good files
 abbrev pub HasCome : Status → List (List ℕ) → Outside → Outside → Type 0
 HasCome status.Usage words old new = IsUnopened old new
 HasCome (status.Unsuitable reason) words old new = IsUnopened old new
-HasCome status.NotYet words old new = IsUnopened old new
-HasCome (status.ReadFault Image) words old new = IsUnopened old new
+HasCome (status.ReadFault Image) words old new =
+    IsUnopened old new ⊎ Chooses words old CanRun
 HasCome (status.ReadFault Disk) words old new =
     IsUnopened old new ⊎ (IsOpened new × Chooses words old CanRun)
 HasCome status.NoMemory words old new = IsOpened new
 HasCome later words old new = Unit {0}
+
+-- a fact for each status that comes before the first event alone
+abbrev pub BeforeEvents : Status → Type 0 → Type 0
+BeforeEvents status.Usage P = P
+BeforeEvents (status.Unsuitable reason) P = P
+BeforeEvents (status.ReadFault Disk) P = P
+BeforeEvents status.NoMemory P = P
+BeforeEvents other P = Unit {0}
 
 -- a fact for every status but Done
 abbrev pub UnlessDone : Status → Type 0 → Type 0

@@ -46,7 +46,6 @@ status_text (status.BadLine number kind) =
 status_text (status.ReadFault failed) = codes "cannot read " ++ role_name failed
 status_text (status.WriteFault failed) = codes "cannot write " ++ role_name failed
 status_text status.NoMemory = codes "no memory"
-status_text status.NotYet = codes "not yet"
 
 -- the line of a status that isn't Done, with its line feed (10)
 abbrev pub line_with : List ℕ → List ℕ

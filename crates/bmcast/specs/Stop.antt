@@ -2,7 +2,6 @@
 use Rattle.std.specs.Prelude.{ℕ, Result, Ok, Err}
 use Rattle.bm_host.specs.Outside.{Outside, SameCounts, OnlyRose, Reads, Writes}
 use Rattle.schedule_text.specs.declared.LineFault.{LineFault}
-use Rattle.bm_host.specs.declared.Role.TheVariants.{Disk}
 use Rattle.bmcast.specs.declared.Status.{Status}
 use Rattle.bmcast.specs.declared.Status.TheVariants as status
 use Rattle.world.specs.declared.fault.HostFault.{HostFault}
@@ -52,15 +51,8 @@ status_of (stop.BadLine number fault) = status.BadLine number fault
 status_of (stop.ReadFault role) = status.ReadFault role
 status_of (stop.WriteFault role) = status.WriteFault role
 status_of stop.NoMemory = status.NoMemory
-status_of stop.NotYet = status.NotYet
 
 -- the status after a run
 abbrev pub status_after : {T : Type 0} → Result T Stop → Status
 status_after (Ok x) = status.Done
 status_after (Err why) = status_of why
-
--- a fact for what stops a run while the disk is read
-abbrev pub OnLoading : Status → Type 0 → Type 0
-OnLoading (status.ReadFault Disk) P = P
-OnLoading status.NoMemory P = P
-OnLoading other P = Unit {0}

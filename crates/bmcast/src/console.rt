@@ -55,7 +55,6 @@ fn push_status(line: &mut ArrayVec<u8, MOST>, status: Status)
         Status::ReadFault(role) => push_two(line, b"cannot read ", role_name(role)),
         Status::WriteFault(role) => push_two(line, b"cannot write ", role_name(role)),
         Status::NoMemory => push(line, b"no memory"),
-        Status::NotYet => push(line, b"not yet"),
     }
 }
 

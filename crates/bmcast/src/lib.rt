@@ -12,22 +12,24 @@
 #![tactic(auto)]
 
 mod console;
+mod known;
 mod lengths;
 mod play;
 mod run;
 mod stop;
 mod streams;
+mod survey;
 
 ghost use Rattle.bmcast.specs.Run.{RunIsBad, RunIsDone};
 ghost use Rattle.block_writes.specs.Kept.{KeepsLooked};
 ghost use Rattle.bmcast.specs.Files.{LeavesFiles};
 ghost use Rattle.bmcast.specs.Owed.{AnswersWhatIsOwed};
-ghost use Rattle.std.specs.Prelude.{◌≡◌};
+ghost use Rattle.std.specs.Prelude.{◌≡◌, Some, []};
 ghost use Rattle.run_words.specs.Pairs.{texts};
-ghost use Rattle.bmcast.specs.Status.{HasCome, HasItsReason, OnBadLineStatus, UnlessDone};
+ghost use Rattle.bmcast.specs.Status.{BeforeEvents, HasCome, HasItsReason, OnBadLineStatus, UnlessDone};
 ghost use Rattle.bmcast.specs.Status.{HasItsCause, OnDone, OnlyConsole, ConsoleSays, exit_code};
 ghost use Rattle.bmcast.specs.Stop.{status_of};
-ghost use Rattle.bm_host.specs.declared.Role.TheVariants.{Console};
+ghost use Rattle.bm_host.specs.declared.Role.TheVariants.{Console, Image};
 ghost use Rattle.bmcast.specs.StatusLine.{status_line};
 ghost use Rattle.bm_host.specs.Outside.{SameElsewhere};
 
@@ -55,8 +57,6 @@ pub enum Status {
     WriteFault(Role),
     /// There was not enough memory to begin.
     NoMemory,
-    /// The image isn't empty; that is built later.
-    NotYet,
 }
 
 impl Status {
@@ -72,7 +72,6 @@ impl Status {
             Status::ReadFault(_) => 4,
             Status::WriteFault(_) => 5,
             Status::NoMemory => 6,
-            Status::NotYet => 7,
         }
     }
 }
@@ -80,28 +79,34 @@ impl Status {
 /// Does what the words after the program's name say, over the files of `host`. Where the status isn't Done, one
 /// line on Console says it.
 ///
-/// At Done the schedule was read to its end, the report is that of a plain drive that began with the disk, the network
-/// is the one that schedule, report and image make, and out holds what a power cut would leave. The first refusal is the answer: the words (Usage), the files (ReadFault), the
-/// lengths (Unsuitable), an image that isn't empty (NotYet), the schedule's first line that isn't one (BadLine). A
-/// fault comes only where that role's count of faults rose.
+/// At Done the schedule was read to its end, and the report is an honest trace of a drive that began with the disk, of
+/// its monitor and of the network, or without an image that of a plain drive; out holds what a power cut would leave.
+/// The first refusal is the answer: the words (Usage), the files (ReadFault), their lengths and the header on the disk
+/// (Unsuitable), the schedule's first line that isn't taken (BadLine). A fault comes only where that role's count of
+/// faults rose.
 pub fn bmcast<H: Host>(alloc: Global, words: &[String], host: &mut H) -> Status
     ensures done { OnDone result
         (RunIsDone (texts words.now) (H.outside host.old) (H.outside host.new)) }
     ensures bad_line { OnBadLineStatus result
         (RunIsBad (texts words.now) (H.outside host.old) (H.outside host.new)) }
 
-    // Of words and lengths each status has its reason, and no other status has it.
+    // Of words, image and disk each status has its reason, and no other status has it.
     ensures reason { HasItsReason result (texts words.now) (H.outside host.old) }
 
     // Where image, disk and schedule are told and no count rose, the answer is the one that they owe.
     ensures owed { AnswersWhatIsOwed result (texts words.now)
         (H.outside host.old) (H.outside host.new) }
 
-    // Report and Out are opened only behind words and lengths that are good. Where the disk can't be read or memory is
+    // Report and Out are opened only behind words and files that are good. Where the disk can't be read or memory is
     // wanting nothing was read of Schedule in turn since it was opened, and both are empty.
     ensures came { HasCome result (texts words.now) (H.outside host.old) (H.outside host.new) }
     ensures files { LeavesFiles result (H.outside host.old) (H.outside host.new) }
-    ensures looked { (H.outside host.new).looked ≡ (H.outside host.old).looked }
+
+    // Nothing of Image is looked at before the first event, and of an empty one nothing at all; at Done and at a bad
+    // line no more than goes into replies, as `done` and `bad_line` say.
+    ensures looked { BeforeEvents result (KeepsLooked (H.outside host.old) (H.outside host.new)) }
+    ensures empty { (H.outside host.old).told Image ≡ Some []
+        → KeepsLooked (H.outside host.old) (H.outside host.new) }
 
     ensures told { UnlessDone result
         (ConsoleSays (status_line result) (H.outside host.old) (H.outside host.new)) }

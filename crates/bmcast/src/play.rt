@@ -1,19 +1,21 @@
 //! The events of the schedule, read, done and reported one line at a time.
 
-ghost use Rattle.std.specs.Prelude.{◌≡◌, ◌≢◌, ◌≤◌, ◌+◌, ℕ, List, [], IfErr, IfOk, OnOk};
+ghost use Rattle.std.specs.Prelude.{◌≡◌, ◌≢◌, ◌≤◌, ◌+◌, ℕ, List, [], true, IfErr, IfOk, OnOk};
 ghost use Rattle.bm_host.specs.Outside.{Outside, IfTold};
-ghost use Rattle.bm_host.specs.declared.Role.TheVariants.{Schedule};
+ghost use Rattle.bm_host.specs.declared.Role.TheVariants.{Image, Schedule};
 ghost use Rattle.schedule_text.specs.Line.{Says, IsInRange};
 ghost use Rattle.schedule_text.specs.BadLine.{LineFails};
 ghost use Rattle.plain_run.specs.Entry.{entry_of, items_text};
 ghost use Rattle.streaming.specs.World.{Scene, WorldEvent};
 ghost use Rattle.block_writes.specs.Kept.{KeepsLooked};
 ghost use Rattle.bmcast.specs.Stop.{IsCounted, OnBadLine, UnlessFault};
-ghost use Rattle.bmcast.specs.Stages.{StopsAt, moving_lines, playing};
+ghost use Rattle.bmcast.specs.Stages.{StopsAt, doing_event, moving_lines, playing};
 ghost use Rattle.bmcast.specs.Kept.{KeepsFiles};
-ghost use Rattle.bmcast.specs.Streams.{unread, KeepsSaid, Reports};
-ghost use Rattle.bmcast.specs.Played.{Begun, HasPlayed, HasTaken, HasDone, HasEnded, Leads, Progresses, HasFailed};
+ghost use Rattle.bmcast.specs.Streams.{unread, KeepsSaid, KeepsUnread, Reports};
+ghost use Rattle.bmcast.specs.Known.{knows, reaches_server};
+ghost use Rattle.bmcast.specs.Played.{Begun, HasPlayed, HasTaken, HasDone, HasEnded, IsOver, Leads, Progresses, HasFailed};
 
+use crate::known::{knows, reaches_server};
 use crate::stop::Stop;
 use crate::streams::{Fetched, Line, Streams};
 use arrayvec::ArrayVec;
@@ -28,31 +30,33 @@ pub(crate) enum Progress {
     Ended,
 }
 
-/// Reads, does and reports the events of the schedule to its end, and answers the number of its line `end`.
+/// Reads, does and reports the events of the schedule to its end, over an image of so many sectors, and answers the
+/// number of its line `end`.
 pub(crate) fn play<H: Host>(
     host: &mut H,
     streams: &mut Streams,
     world: &mut World,
+    image: u64,
 ) -> Result<u32, Stop>
-    requires empty { world.old.image ≡ 0 }
+    requires over { IsOver image (H.outside host.old) world.old.scene }
     ensures stops { IfErr result (StopsAt playing) }
-    ensures looked { KeepsLooked (H.outside host.old) (H.outside host.new) }
+    ensures looked { image ≡ 0 → KeepsLooked (H.outside host.old) (H.outside host.new) }
     ensures counts { IsCounted result (H.outside host.old) (H.outside host.new) }
     ensures files { KeepsFiles (H.outside host.old) (H.outside host.new) }
-    ensures image { world.new.image ≡ world.old.image }
+    ensures over { OnOk result (IsOver image (H.outside host.new) world.new.scene) }
     ensures ended { IfOk result (λ number. (start : Begun)
-        → HasPlayed start streams.old (H.outside host.old) world.old 1
-        → HasEnded start streams.new (H.outside host.new) world.new number) }
+        → HasPlayed start streams.old (H.outside host.old) world.old.scene 1
+        → HasEnded start streams.new (H.outside host.new) world.new.scene number) }
     ensures bad { OnBadLine result (λ bad kind. (start : Begun)
-        → HasPlayed start streams.old (H.outside host.old) world.old 1
-        → HasFailed start streams.new (H.outside host.new) world.new bad kind) }
+        → HasPlayed start streams.old (H.outside host.old) world.old.scene 1
+        → HasFailed start streams.new (H.outside host.new) world.new.scene bad kind) }
 {
     let mut line = ArrayVec::new();
     let mut event = Event::Remark;
     let mut out = Emitted::new();
     for number in 1..=LAST_LINE {
         match play_line(
-            host, streams, world, &mut line, &mut event, &mut out, number,
+            host, streams, world, image, &mut line, &mut event, &mut out, number,
         ) {
             Ok(Progress::More) => {}
             Ok(Progress::Ended) => return Ok(number),
@@ -68,32 +72,33 @@ fn play_line<H: Host>(
     host: &mut H,
     streams: &mut Streams,
     world: &mut World,
+    image: u64,
     line: &mut Line,
     event: &mut Event,
     out: &mut Emitted,
     number: u32,
 ) -> Result<Progress, Stop>
-    requires empty { world.old.image ≡ 0 }
+    requires over { IsOver image (H.outside host.old) world.old.scene }
     requires number { number ≤ LAST_LINE }
     ensures stops { IfErr result (StopsAt playing) }
-    ensures looked { KeepsLooked (H.outside host.old) (H.outside host.new) }
+    ensures looked { image ≡ 0 → KeepsLooked (H.outside host.old) (H.outside host.new) }
     ensures counts { IsCounted result (H.outside host.old) (H.outside host.new) }
     ensures files { KeepsFiles (H.outside host.old) (H.outside host.new) }
-    ensures image { world.new.image ≡ world.old.image }
+    ensures over { OnOk result (IsOver image (H.outside host.new) world.new.scene) }
     ensures progress { IfOk result (λ progress. (start : Begun)
-        → HasPlayed start streams.old (H.outside host.old) world.old number
-        → Progresses progress start streams.new (H.outside host.new) world.new
+        → HasPlayed start streams.old (H.outside host.old) world.old.scene number
+        → Progresses progress start streams.new (H.outside host.new) world.new.scene
         number) }
     ensures more { IfOk result (λ progress. progress ≡ Progress.More → number ≢ LAST_LINE) }
     ensures bad { OnBadLine result (λ bad kind. (start : Begun)
-        → HasPlayed start streams.old (H.outside host.old) world.old number
-        → HasFailed start streams.new (H.outside host.new) world.new bad kind) }
+        → HasPlayed start streams.old (H.outside host.old) world.old.scene number
+        → HasFailed start streams.new (H.outside host.new) world.new.scene bad kind) }
 {
     match take_line(host, streams, line, number) {
         Ok(()) => {}
         Err(stop) => return Err(stop),
     }
-    match do_line(host, streams, world, line, event, out, number) {
+    match do_line(host, streams, world, image, line, event, out, number) {
         Ok(Progress::More) => Ok(Progress::More),
         Ok(Progress::Ended) => match expect_end(host, streams, number) {
             Ok(()) => Ok(Progress::Ended),
@@ -137,27 +142,28 @@ fn do_line<H: Host>(
     host: &mut H,
     streams: &mut Streams,
     world: &mut World,
+    image: u64,
     line: &Line,
     event: &mut Event,
     out: &mut Emitted,
     number: u32,
 ) -> Result<Progress, Stop>
-    requires empty { world.old.image ≡ 0 }
+    requires over { IsOver image (H.outside host.old) world.old.scene }
     requires number { number ≤ LAST_LINE }
     ensures stops { IfErr result (StopsAt playing) }
-    ensures looked { KeepsLooked (H.outside host.old) (H.outside host.new) }
+    ensures looked { image ≡ 0 → KeepsLooked (H.outside host.old) (H.outside host.new) }
     ensures counts { IsCounted result (H.outside host.old) (H.outside host.new) }
     ensures files { KeepsFiles (H.outside host.old) (H.outside host.new) }
-    ensures image { world.new.image ≡ world.old.image }
+    ensures over { OnOk result (IsOver image (H.outside host.new) world.new.scene) }
     ensures done { IfOk result (λ progress. (start : Begun)
-        → HasTaken start streams.old (H.outside host.old) world.old
+        → HasTaken start streams.old (H.outside host.old) world.old.scene
         line.now.items number
-        → HasDone progress start streams.new (H.outside host.new) world.new number) }
+        → HasDone progress start streams.new (H.outside host.new) world.new.scene number) }
     ensures more { IfOk result (λ progress. progress ≡ Progress.More → number ≢ LAST_LINE) }
     ensures bad { OnBadLine result (λ bad kind. (start : Begun)
-        → HasTaken start streams.old (H.outside host.old) world.old
+        → HasTaken start streams.old (H.outside host.old) world.old.scene
         line.now.items number
-        → HasFailed start streams.new (H.outside host.new) world.new bad kind) }
+        → HasFailed start streams.new (H.outside host.new) world.new.scene bad kind) }
 {
     match read_event(line.as_slice(), event) {
         Ok(()) => {}
@@ -167,7 +173,10 @@ fn do_line<H: Host>(
         Ok(progress) => progress,
         Err(stop) => return Err(stop),
     };
-    do_event(host, streams, world, event, number, out)?;
+    if !knows(image, event) {
+        return Err(Stop::BadLine(number, LineFault::Form));
+    }
+    do_event(host, streams, world, image, event, number, out)?;
     Ok(progress)
 }
 
@@ -186,32 +195,63 @@ fn progress_after(event: &Event, number: u32) -> Result<Progress, Stop>
     }
 }
 
-// Does an event, whose line has this number, and reports it.
+// Does an event, whose line has this number, and reports it. Where the image can't be read for it no line waits.
 fn do_event<H: Host>(
     host: &mut H,
     streams: &mut Streams,
     world: &mut World,
+    image: u64,
     event: &Event,
     number: u32,
     out: &mut Emitted,
 ) -> Result<(), Stop>
-    requires empty { world.old.image ≡ 0 }
+    requires over { IsOver image (H.outside host.old) world.old.scene }
     requires in_range { IsInRange event.now }
+    requires known { knows image event.now ≡ true }
     ensures counts { IsCounted result (H.outside host.old) (H.outside host.new) }
-    ensures stops { IfErr result (StopsAt moving_lines) }
-    ensures looked { KeepsLooked (H.outside host.old) (H.outside host.new) }
+    ensures stops { IfErr result (StopsAt doing_event) }
+    ensures written { IfErr result (λ stop. stop ≡ Stop.ReadFault Image
+        → streams.new.pending.items ≡ []) }
+    ensures looked { image ≡ 0 → KeepsLooked (H.outside host.old) (H.outside host.new) }
     ensures files { KeepsFiles (H.outside host.old) (H.outside host.new) }
-    ensures image { world.new.image ≡ world.old.image }
-    ensures event { OnOk result (WorldEvent (H.outside host.old) (H.outside host.new) world.old
-        (entry_of event.now out.new.items.items out.new.bytes.items) world.new) }
+    ensures over { OnOk result (IsOver image (H.outside host.new) world.new.scene) }
+    ensures event { OnOk result (WorldEvent (H.outside host.old) (H.outside host.new)
+        world.old.scene (entry_of event.now out.new.items.items out.new.bytes.items)
+        world.new.scene) }
     ensures reported { OnOk result
         (Reports streams.old streams.new (H.outside host.old) (H.outside host.new)
         (items_text number out.new.items.items out.new.bytes.items)) }
 {
+    flush_before(host, streams, image, event)?;
     out.clear();
     match world.apply(host, event, out) {
         Ok(()) => streams.report(host, number, out),
         Err(fault) => Err(Stop::of(fault)),
+    }
+}
+
+// Writes the lines that wait, where an event may have the image looked at.
+fn flush_before<H: Host>(
+    host: &mut H,
+    streams: &mut Streams,
+    image: u64,
+    event: &Event,
+) -> Result<(), Stop>
+    ensures counts { IsCounted result (H.outside host.old) (H.outside host.new) }
+    ensures stops { IfErr result (StopsAt moving_lines) }
+    ensures written { OnOk result (image ≢ 0 → reaches_server event.now ≡ true
+        → streams.new.pending.items ≡ []) }
+    ensures looked { KeepsLooked (H.outside host.old) (H.outside host.new) }
+    ensures files { KeepsFiles (H.outside host.old) (H.outside host.new) }
+    ensures said { OnOk result
+        (KeepsSaid streams.old streams.new (H.outside host.old) (H.outside host.new)) }
+    ensures unread { OnOk result
+        (KeepsUnread streams.old streams.new (H.outside host.old) (H.outside host.new)) }
+{
+    if image > 0 && reaches_server(event) {
+        streams.flush(host)
+    } else {
+        Ok(())
     }
 }
 

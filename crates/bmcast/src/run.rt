@@ -1,9 +1,8 @@
-//! A whole run, step by step: words, lengths, files, the world's start, events, report, and the world's end.
+//! A whole run, step by step: words, image and disk, files, the world's start, events, report, and the world's end.
 
-ghost use Rattle.std.specs.Prelude.{◌≡◌, ◌≤◌, ◌⊎◌, [], IfErr, OnOk, IfOk};
-ghost use Rattle.aoe_net.specs.Wire.{nothing_sent};
+ghost use Rattle.std.specs.Prelude.{◌≡◌, ◌≤◌, Some, [], IfErr, OnOk, IfOk};
 ghost use Rattle.bm_host.specs.Outside.{IfTold};
-ghost use Rattle.bm_host.specs.declared.Role.TheVariants.{Out};
+ghost use Rattle.bm_host.specs.declared.Role.TheVariants.{Image, Out};
 ghost use Rattle.block_writes.specs.Kept.{KeepsFilesBut, KeepsLooked};
 ghost use Rattle.std.specs.List.{concat};
 ghost use Rattle.monitor_state.specs.Setup.{IsSetup};
@@ -15,16 +14,16 @@ ghost use Rattle.bmcast.specs.Lengths.{IsAreaOf};
 ghost use Rattle.bmcast.specs.SetUp.{setup_of};
 ghost use Rattle.bmcast.specs.Stop.{IsCounted, OnBadLine};
 ghost use Rattle.bmcast.specs.Stages.{IsLate, StopsAt, beginning, playing, writing_out};
-ghost use Rattle.bmcast.specs.Status.{HasCome, HasItsReason};
-ghost use Rattle.bmcast.specs.Stop.{OnLoading, status_after};
-ghost use Rattle.bmcast.specs.Played.{Begun, HasPlayed, HasEnded, HasFailed};
+ghost use Rattle.bmcast.specs.Status.{BeforeEvents, HasCome, HasItsReason};
+ghost use Rattle.bmcast.specs.Stop.{status_after};
+ghost use Rattle.bmcast.specs.Played.{Begun, HasPlayed, HasEnded, HasFailed, IsOver};
 ghost use Rattle.bmcast.specs.Played.{IsReported, IsStopped};
 ghost use Rattle.bmcast.specs.Run.{DoneRun, BadLineRun, RunIsBad, RunIsDone};
 
-use crate::lengths::measure;
 use crate::play::play;
 use crate::stop::Stop;
 use crate::streams::Streams;
+use crate::survey::survey;
 use bm_dma::MOST_BYTES;
 use bm_host::{Host, Role};
 use fill_bitmap::Area;
@@ -46,13 +45,16 @@ pub(crate) fn run<H: Host>(alloc: Global, words: &[String], host: &mut H) -> Res
     ensures files { LeavesFiles (status_after result) (H.outside host.old) (H.outside host.new) }
     ensures came { HasCome (status_after result) (texts words.now)
         (H.outside host.old) (H.outside host.new) }
-    ensures looked { KeepsLooked (H.outside host.old) (H.outside host.new) }
+    ensures looked { BeforeEvents (status_after result)
+        (KeepsLooked (H.outside host.old) (H.outside host.new)) }
+    ensures empty { (H.outside host.old).told Image ≡ Some []
+        → KeepsLooked (H.outside host.old) (H.outside host.new) }
     ensures console { SameConsole (H.outside host.old) (H.outside host.new) }
 {
     let Some(options) = read_options(words) else {
         return Err(Stop::Usage);
     };
-    let area = match measure(host, &options) {
+    let area = match survey(host, &options) {
         Ok(area) => area,
         Err(stop) => return Err(stop),
     };
@@ -83,17 +85,19 @@ fn run_events<H: Host>(
 ) -> Result<(), Stop>
     requires setup { IsSetup setup.now }
     requires memory { options.now.memory ≤ MOST_BYTES }
-    requires area { IsAreaOf setup.now.area (H.outside host.old) }
-    requires empty { setup.now.area.image ≡ 0 }
+    requires area { IsAreaOf (seen options.now) setup.now.area (H.outside host.old) }
     ensures counts { IsCounted result (H.outside host.old) (H.outside host.new) }
     ensures late { IfErr result IsLate }
-    ensures looked { KeepsLooked (H.outside host.old) (H.outside host.new) }
+    ensures looked { BeforeEvents (status_after result)
+        (KeepsLooked (H.outside host.old) (H.outside host.new)) }
+    ensures empty { setup.now.area.image ≡ 0
+        → KeepsLooked (H.outside host.old) (H.outside host.new) }
     ensures done { OnOk result
-        (DoneRun options.now.memory (H.outside host.old) (H.outside host.new)) }
+        (DoneRun (seen options.now) (H.outside host.old) (H.outside host.new)) }
     ensures bad { OnBadLine result
-        (BadLineRun options.now.memory (H.outside host.old) (H.outside host.new)) }
+        (BadLineRun (seen options.now) (H.outside host.old) (H.outside host.new)) }
     ensures files { LeavesFiles (status_after result) (H.outside host.old) (H.outside host.new) }
-    ensures opened { OnLoading (status_after result) (IsOpened (H.outside host.new)) }
+    ensures opened { BeforeEvents (status_after result) (IsOpened (H.outside host.new)) }
     ensures console { SameConsole (H.outside host.old) (H.outside host.new) }
 {
     match begin_files(host, options) {
@@ -104,7 +108,7 @@ fn run_events<H: Host>(
         Ok(world) => world,
         Err(fault) => return Err(Stop::at_start(fault)),
     };
-    match report_run(host, &mut world) {
+    match report_run(host, &mut world, setup.area.image) {
         Ok(()) => end_run(host, world),
         Err(stop) => {
             world.discard();
@@ -121,7 +125,7 @@ fn end_run<H: Host>(host: &mut H, world: World) -> Result<(), Stop>
     ensures looked { KeepsLooked (H.outside host.old) (H.outside host.new) }
     ensures files { KeepsFilesBut Out (H.outside host.old) (H.outside host.new) }
     ensures out { OnOk result (IfTold ((H.outside host.new).told Out)
-        (λ bytes. bytes ≡ concat world.drive.kept.durable)) }
+        (λ bytes. bytes ≡ concat world.scene.drive.kept.durable)) }
 {
     match world.close(host) {
         Ok(()) => Ok(()),
@@ -150,23 +154,22 @@ fn begin_files<H: Host>(host: &mut H, options: &Options<'_>) -> Result<(), Stop>
     Ok(())
 }
 
-// Plays the schedule to its end, and writes the report; the same up to a line that is bad.
-fn report_run<H: Host>(host: &mut H, world: &mut World) -> Result<(), Stop>
+// Plays the schedule to its end over an image of so many sectors, and writes the report; the same up to a line that is
+// refused.
+fn report_run<H: Host>(host: &mut H, world: &mut World, image: u64) -> Result<(), Stop>
     requires ready { IsOpened (H.outside host.old) }
-    requires nothing { world.old.wire ≡ nothing_sent }
-    requires empty { world.old.image ≡ 0 }
-    ensures image { world.new.image ≡ world.old.image }
+    requires over { IsOver image (H.outside host.old) world.old.scene }
     ensures counts { IsCounted result (H.outside host.old) (H.outside host.new) }
     ensures files { KeepsFiles (H.outside host.old) (H.outside host.new) }
     ensures stops { IfErr result (StopsAt playing) }
-    ensures looked { KeepsLooked (H.outside host.old) (H.outside host.new) }
+    ensures looked { image ≡ 0 → KeepsLooked (H.outside host.old) (H.outside host.new) }
     ensures reported { OnOk result (IsReported (H.outside host.old) (H.outside host.new)
-        world.old world.new) }
+        world.old.scene world.new.scene) }
     ensures bad { OnBadLine result (IsStopped (H.outside host.old) (H.outside host.new)
-        world.old world.new) }
+        world.old.scene world.new.scene) }
 {
     let mut streams = Streams::new();
-    let number = match play_to_end(host, &mut streams, world) {
+    let number = match play_to_end(host, &mut streams, world, image) {
         Ok(number) => number,
         Err(stop) => return Err(stop),
     };
@@ -175,23 +178,27 @@ fn report_run<H: Host>(host: &mut H, world: &mut World) -> Result<(), Stop>
     Ok(())
 }
 
-// Plays the schedule. Where a line isn't one, the report of the events before it is written all the same.
-fn play_to_end<H: Host>(host: &mut H, streams: &mut Streams, world: &mut World) -> Result<u32, Stop>
-    requires empty { world.old.image ≡ 0 }
-    ensures image { world.new.image ≡ world.old.image }
+// Plays the schedule. Where a line is refused, the report of the events before it is written all the same.
+fn play_to_end<H: Host>(
+    host: &mut H,
+    streams: &mut Streams,
+    world: &mut World,
+    image: u64,
+) -> Result<u32, Stop>
+    requires over { IsOver image (H.outside host.old) world.old.scene }
     ensures counts { IsCounted result (H.outside host.old) (H.outside host.new) }
     ensures files { KeepsFiles (H.outside host.old) (H.outside host.new) }
     ensures stops { IfErr result (StopsAt playing) }
-    ensures looked { KeepsLooked (H.outside host.old) (H.outside host.new) }
+    ensures looked { image ≡ 0 → KeepsLooked (H.outside host.old) (H.outside host.new) }
     ensures ended { IfOk result (λ number. (start : Begun)
-        → HasPlayed start streams.old (H.outside host.old) world.old 1
-        → HasEnded start streams.new (H.outside host.new) world.new number) }
+        → HasPlayed start streams.old (H.outside host.old) world.old.scene 1
+        → HasEnded start streams.new (H.outside host.new) world.new.scene number) }
     ensures bad { OnBadLine result (λ bad kind. (start : Begun)
-        → HasPlayed start streams.old (H.outside host.old) world.old 1
-        → HasFailed start streams.new (H.outside host.new) world.new bad kind) }
+        → HasPlayed start streams.old (H.outside host.old) world.old.scene 1
+        → HasFailed start streams.new (H.outside host.new) world.new.scene bad kind) }
     ensures written { OnBadLine result (λ bad kind. streams.new.pending.items ≡ []) }
 {
-    match play(host, streams, world) {
+    match play(host, streams, world, image) {
         Ok(number) => Ok(number),
         Err(Stop::BadLine(number, fault)) => match streams.flush(host) {
             Ok(()) => Err(Stop::BadLine(number, fault)),

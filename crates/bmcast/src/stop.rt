@@ -21,7 +21,6 @@ pub(crate) enum Stop {
     ReadFault(Role),
     WriteFault(Role),
     NoMemory,
-    NotYet,
 }
 
 impl Stop {
@@ -56,7 +55,6 @@ impl Stop {
             Stop::ReadFault(role) => Status::ReadFault(role),
             Stop::WriteFault(role) => Status::WriteFault(role),
             Stop::NoMemory => Status::NoMemory,
-            Stop::NotYet => Status::NotYet,
         }
     }
 }

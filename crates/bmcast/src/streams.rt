@@ -21,8 +21,8 @@ pub(crate) const PENDING: usize = 16384;
 
 /// A block of the schedule with what is taken of it, and the report's lines that aren't written yet.
 ///
-/// Lines wait until the next call to the host that isn't a write to Report, so a fault of another role finds the
-/// report exact (own).
+/// Lines wait until the next call to the host that isn't a write to Report, be it the next block of the schedule or a
+/// look at the image, so a fault of another role finds the report exact (own).
 #[derive(Drop)]
 pub(crate) struct Streams {
     pub(crate) block: [u8; BLOCK],

@@ -4,7 +4,7 @@ use crate::hosts::owned;
 use bm_host::{FileHost, NoMemory, Role};
 use bmcast::{Status, Why, bmcast};
 use std::alloc::Global;
-use std::fs;
+use std::fs::{self, OpenFile};
 use std::test::Fail;
 
 const SCHEDULE: &[u8] = b"end\n";
@@ -23,16 +23,19 @@ const NO_DISK: Status = Status::ReadFault(Role::Disk);
 
 const ODD_DISK: Status = Status::Unsuitable(Why::DiskLength);
 
+const LARGE_DISK: Status = Status::Unsuitable(Why::TooLarge);
+
 const NO_SCHEDULE: Status = Status::ReadFault(Role::Schedule);
 
 const NO_REPORT: Status = Status::WriteFault(Role::Report);
 
 const NO_OUT: Status = Status::WriteFault(Role::Out);
 
-const FILES: [&str; 7] = [
+const FILES: [&str; 8] = [
     "run_files/image",
     "run_files/odd",
     "run_files/disk",
+    "run_files/large",
     "run_files/link",
     "run_files/schedule",
     "run_files/report",
@@ -41,8 +44,8 @@ const FILES: [&str; 7] = [
 
 // One option's value, in place of a good one; how the run ends, and what the files of report and out hold then. Files
 // are opened one after the other: image, disk, schedule, report, out. `link` is a second name of the disk's file, and
-// `odd` has 5 bytes.
-const CASES: [(&str, &str, Status, &[u8], &[u8]); 17] = [
+// `odd` has 5 bytes; `large` has 262,145 sectors, one more than a disk may have.
+const CASES: [(&str, &str, Status, &[u8], &[u8]); 18] = [
     ("--pool", "8", Status::Done, LINE, DISK),
     ("--pool", "3", Status::Usage, OLD, OLD),
     ("--image", "run_files/missing", NO_IMAGE, OLD, OLD),
@@ -52,6 +55,7 @@ const CASES: [(&str, &str, Status, &[u8], &[u8]); 17] = [
     ("--disk", "run_files/missing", NO_DISK, OLD, OLD),
     ("--disk", "run_files", NO_DISK, OLD, OLD),
     ("--disk", "run_files/odd", ODD_DISK, OLD, OLD),
+    ("--disk", "run_files/large", LARGE_DISK, OLD, OLD),
     ("--schedule", "run_files/missing", NO_SCHEDULE, OLD, OLD),
     ("--schedule", "run_files", NO_SCHEDULE, OLD, OLD),
     ("--report", "run_files/missing/report", NO_REPORT, OLD, OLD),
@@ -97,6 +101,7 @@ fn a_file_of_each_role_fails(rt: HostRuntime) -> Result<(), Fail> {
     fs::write(&rt, "run_files/image", b"")?;
     fs::write(&rt, "run_files/odd", b"12345")?;
     fs::write(&rt, "run_files/disk", DISK)?;
+    fs::create(&rt, "run_files/large")?.set_len(512 * 262_145)?;
     fs::hard_link(&rt, "run_files/disk", "run_files/link")?;
     fs::write(&rt, "run_files/schedule", SCHEDULE)?;
     for (option, value, wanted, report, out) in CASES {

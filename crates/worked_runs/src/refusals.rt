@@ -1,4 +1,5 @@
-//! Runs that are refused: by their words, by the lengths of image and disk, and by a line of the schedule.
+//! Runs that are refused: by their words, by the lengths of image and disk, by the header on the disk, and by a line of
+//! the schedule.
 
 use crate::hosts::{Ending, Files, OLD_REPORT, WORDS, joined, run, run_schedule, run_words};
 use bm_host::Role;
@@ -69,21 +70,32 @@ const TOO_SMALL: Ending = (
     b"bmcast: unsuitable: TooSmall\n",
 );
 
-const NOT_YET: Ending = (Status::NotYet, b"bmcast: not yet\n");
+const ALREADY_BEGUN: Ending = (
+    Status::Unsuitable(Why::AlreadyBegun),
+    b"bmcast: unsuitable: AlreadyBegun\n",
+);
+
+const NOT_BEGUN: Ending = (
+    Status::Unsuitable(Why::NotBegun),
+    b"bmcast: unsuitable: NotBegun\n",
+);
+
+const DONE: Ending = (Status::Done, b"");
 
 // Bytes of the image and of the disk. A block is 8 sectors, so an image of one block wants a disk of 11: 8 for the
 // image, one for the bitmap, and two more.
 #[test]
 fn lengths_of_image_and_disk(rt: HostRuntime) -> Result<(), Fail> {
-    let cases: [(usize, usize, Ending); 8] = [
+    let cases: [(usize, usize, Ending); 9] = [
         (5, 8192, IMAGE_LENGTH),
         (5, 513, IMAGE_LENGTH),
         (512, 8192, IMAGE_LENGTH),
         (0, 513, DISK_LENGTH),
+        (4096, 513, DISK_LENGTH),
         (0, 0, TOO_SMALL),
         (4096, 5120, TOO_SMALL),
-        (4096, 5632, NOT_YET),
-        (0, 512, (Status::Done, b"")),
+        (4096, 5632, DONE),
+        (0, 512, DONE),
     ];
     for (image, disk, (wanted, console)) in cases {
         let image = vec![in rt.alloc(); 0; image]?;
@@ -97,6 +109,91 @@ fn lengths_of_image_and_disk(rt: HostRuntime) -> Result<(), Fail> {
         let (status, host) = run(rt.alloc(), &WORDS, &[], &files)?;
         assert_eq!(rt; status, wanted, "at {console:?}");
         assert_eq!(rt; host.contents(Role::Console), console);
+    }
+    Ok(())
+}
+
+// How a run of this mode ends over an image of one block and a disk of 11 sectors, whose first reserved sector, 8, begins
+// with these bytes. A refusal leaves the report as it was.
+fn check_header(
+    rt: &impl Abort,
+    alloc: Global,
+    mode: &'static str,
+    header: &[u8],
+    (wanted, console): Ending,
+) -> Result<(), Fail> {
+    let mut words = WORDS;
+    words[12] = mode;
+    let image = vec![in alloc; 0; 4096]?;
+    let mut disk = vec![in alloc; 0; 4096]?;
+    disk.extend_from_slice(header)?;
+    disk.resize(5632, 0)?;
+    let files = Files {
+        image: image.as_slice(),
+        disk: disk.as_slice(),
+        schedule: b"end\n",
+        failing: &[],
+    };
+    let (status, host) = run(alloc, &words, &[], &files)?;
+    let report = if let Status::Done = wanted {
+        b"end 1\n".as_slice()
+    } else {
+        OLD_REPORT
+    };
+    assert_eq!(rt; status, wanted, "at {mode} {header:?}");
+    assert_eq!(rt;
+        host.contents(Role::Console),
+        console,
+        "at {mode} {header:?}"
+    );
+    assert_eq!(rt; host.contents(Role::Report), report, "at {mode} {header:?}");
+    Ok(())
+}
+
+// The header of the run 7 over an image of 8 sectors in blocks of 8, and that of the run 8, by hand from
+// `docs/formats.md`.
+const HEADER: &[u8] = b"BMCFILL1\0\0\0\0\0\0\0\x07\0\0\0\0\0\0\0\x08\0\0\0\x08";
+
+const OTHER_HEADER: &[u8] = b"BMCFILL1\0\0\0\0\0\0\0\x08\0\0\0\0\0\0\0\x08\0\0\0\x08";
+
+#[test]
+fn headers_that_a_mode_refuses(rt: HostRuntime) -> Result<(), Fail> {
+    check_header(&rt, rt.alloc(), "fresh", HEADER, ALREADY_BEGUN)?;
+    check_header(&rt, rt.alloc(), "resume", b"", NOT_BEGUN)?;
+    check_header(&rt, rt.alloc(), "resume", OTHER_HEADER, NOT_BEGUN)
+}
+
+#[test]
+fn headers_that_a_mode_takes(rt: HostRuntime) -> Result<(), Fail> {
+    check_header(&rt, rt.alloc(), "fresh", b"", DONE)?;
+    check_header(&rt, rt.alloc(), "fresh", OTHER_HEADER, DONE)?;
+    check_header(&rt, rt.alloc(), "resume", HEADER, DONE)
+}
+
+// For now a run with an image knows no power cut and no write that sets SRST.
+#[test]
+fn lines_that_a_run_with_an_image_refuses(rt: HostRuntime) -> Result<(), Fail> {
+    let image = vec![in rt.alloc(); 0; 4096]?;
+    let disk = vec![in rt.alloc(); 0; 5632]?;
+    let cases: [(&[u8], u32); 3] = [
+        (b"cut\nend\n", 1),
+        (b"g w8 al 04\nend\n", 1),
+        (b"# note\ng w8 al 00\ng w8 al 06\n", 3),
+    ];
+    for (schedule, number) in cases {
+        let files = Files {
+            image: image.as_slice(),
+            disk: disk.as_slice(),
+            schedule,
+            failing: &[],
+        };
+        let (status, host) = run(rt.alloc(), &WORDS, &[], &files)?;
+        assert_eq!(rt; status, Status::BadLine(number, Form), "at {schedule:?}");
+        assert_eq!(rt;
+            host.contents(Role::Report),
+            b"".as_slice(),
+            "at {schedule:?}"
+        );
     }
     Ok(())
 }

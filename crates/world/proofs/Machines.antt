@@ -14,7 +14,7 @@ use Rattle.world.specs.declared.machine.Machine.{Machine}
 use Rattle.world.specs.Machine.{device, physical, with_device}
 
 -- what stands behind the registers is what the drive keeps
-abbrev kept_behind : Behind MemoryStore → Kept
+abbrev pub kept_behind : Behind MemoryStore → Kept
 kept_behind b = record { durable = list_told (sectors_of b.store).told; cache = b.cache }
 
 -- the drive has another device, and nothing else changed

@@ -1,5 +1,5 @@
 -- What the server answers, as an event of the network, and an event of drive and network together.
-use Rattle.std.proofs.Common.{◌≡◌, ℕ, List, Option, Some, None, Result, refl, sym, ap, ◌∙◌, option_map}
+use Rattle.std.proofs.Common.{◌≡◌, ℕ, List, Option, Some, None, Result, refl, sym, ap, ◌∙◌, subst, option_map}
 use Rattle.bm_host.specs.Outside.{Outside}
 use Rattle.bm_host.specs.declared.Role.TheVariants.{Image}
 use Rattle.aoe_frame.specs.declared.message.Aoe.{Aoe}
@@ -12,7 +12,7 @@ use Rattle.image_server.specs.Serving.{IsReply, LooksAtSent, OverImage}
 use Rattle.plain_run.specs.Entry.{Entry}
 use Rattle.plain_run.specs.Run.{DriveEvent}
 use Rattle.streaming.specs.Network.{handed_to_server, reply_sent, requests_sent, taken_out}
-use Rattle.streaming.specs.World.{Scene, WorldEvent}
+use Rattle.streaming.specs.World.{IsActed, Scene, WorldEvent}
 use Rattle.streaming.proofs.Requests.{drive_asks_none}
 use Rattle.world.specs.Conveying.{Conveys}
 
@@ -50,21 +50,24 @@ answered sectors outside after frame answer old new over looks joined =
       looked = looks one.reading one.reads;
     }
 
--- an event of the drive, and of the network, is one of both: the drive asks for nothing
+-- an event of the drive, and of the network, is one of both where there is no monitor: the drive asks for nothing
 pub both : (outside after : Outside) (old : Scene) (entry : Entry) (new : Scene)
-    → DriveEvent old.drive entry new.drive
+    → old.watched ≡ None → new.watched ≡ None → DriveEvent old.drive entry new.drive
     → Conveys old.image outside after (handed_to_server entry.event old.wire) (taken_out entry.event old.wire) new.wire
     → new.image ≡ old.image → WorldEvent outside after old entry new
-both outside after old entry new drive conveys image = record {
-  drive = drive;
+both outside after old entry new none still drive conveys image = record {
   count = conveys.count;
-  network = record {
-    answer = conveys.answer;
-    serves = conveys.serves;
-    after = conveys.joined ∙ ap (λ frames. requests_sent frames
-        (reply_sent conveys.answer (taken_out entry.event old.wire)))
-        (sym (drive_asks_none old.drive new.drive entry drive));
+  scene = record {
+    acted = subst (λ w. IsActed old.wire old.drive new.drive w entry new.watched) (sym none)
+        (subst (λ w. IsActed old.wire old.drive new.drive None entry w) (sym still) drive);
+    network = record {
+      answer = conveys.answer;
+      serves = conveys.serves;
+      after = conveys.joined ∙ ap (λ frames. requests_sent frames
+          (reply_sent conveys.answer (taken_out entry.event old.wire)))
+          (sym (drive_asks_none old.drive new.drive entry drive));
+    };
+    image = image;
   };
   looked = conveys.looked;
-  image = image;
 }

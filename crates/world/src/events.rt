@@ -10,7 +10,7 @@ ghost use Rattle.schedule_text.specs.Line.{IsInRange};
 ghost use Rattle.plain_run.specs.Entry.{answer_bytes, answer_items, entry_of};
 ghost use Rattle.plain_run.specs.Guest.{answer_due, memory_read, memory_written};
 ghost use Rattle.plain_run.specs.Run.{DriveEvent, physical_event, plan_due, step_item};
-ghost use Rattle.plain_run.specs.Taken.{just_taken, command_item};
+ghost use Rattle.schedule_text.specs.Taken.{just_taken, command_item};
 ghost use Rattle.world.specs.Machine.{device, physical, with_device, with_memory};
 
 use crate::machine::Machine;
@@ -97,8 +97,8 @@ fn answer_words(machine: &mut Machine, n: u32, out: &mut Emitted)
     machine.read_words(out.bytes.as_mut_slice());
 }
 
-// The answer of a read of the guest's memory.
-fn answer_memory(machine: &Machine, address: u32, n: u32, out: &mut Emitted)
+/// The answer of a read of the guest's memory.
+pub(crate) fn answer_memory(machine: &Machine, address: u32, n: u32, out: &mut Emitted)
     requires range { n ≤ EVENT_BYTES }
     requires items { out.old.items.items ≡ [] }
     requires bytes { out.old.bytes.items ≡ [] }
@@ -112,8 +112,8 @@ fn answer_memory(machine: &Machine, address: u32, n: u32, out: &mut Emitted)
     }
 }
 
-// Writes the guest's memory.
-fn write_memory(machine: &mut Machine, address: u32, bytes: &[u8])
+/// Writes the guest's memory.
+pub(crate) fn write_memory(machine: &mut Machine, address: u32, bytes: &[u8])
     requires few { length bytes.now ≤ ANSWER_BYTES }
     ensures after { physical machine.new
         ≡ with_memory (memory_written address bytes.now machine.old.memory) (physical machine.old) }
@@ -136,9 +136,7 @@ fn make_step(machine: &mut Machine, step: Step, out: &mut Emitted)
         ≡ plan_due (Event.Drive step) (seen (physical machine.old)) }
     ensures bytes { out.new.bytes ≡ out.old.bytes }
 {
-    // A store in memory has no fault.
-    let stepped = machine.drive.step(step, &mut machine.memory).unwrap();
-    if let Stepped::Nothing = stepped {
+    if let Stepped::Nothing = machine.step(step) {
         return;
     }
     out.items.push(step_item(step));
@@ -153,8 +151,8 @@ fn step_item(step: Step) -> Item
     }
 }
 
-// Entry `k` of the cache becomes durable; no guest sees it.
-fn destage(machine: &mut Machine, k: u32)
+/// Entry `k` of the cache becomes durable; no guest sees it.
+pub(crate) fn destage(machine: &mut Machine, k: u32)
     ensures after { physical machine.new ≡ physical_event (Event.Destage k) (physical machine.old) }
 {
     // A store in memory has no fault.

@@ -2,10 +2,13 @@
 
 ghost use Rattle.std.specs.Prelude.{◌≤◌, ◌/◌, ◌%◌, length};
 ghost use Rattle.ata_taskfile.specs.Device.{after_read8, after_write8, after_write_pointer, byte_read};
+ghost use Rattle.ata_taskfile.specs.Lawful.{IsLawful};
 ghost use Rattle.plain_drive.specs.Plain.{words_of};
+ghost use Rattle.plain_drive.specs.Physical.{physical_step, seen};
+ghost use Rattle.plain_drive.specs.Step.{acts, stepped_if};
 ghost use Rattle.plain_drive.specs.Words.{words_read, after_words, after_written, bytes_of};
 
-use ata_taskfile::{Ports, Reg};
+use ata_taskfile::{Ports, Reg, Step, Stepped};
 use bm_dma::GuestMemory;
 use drive_model::Drive;
 use drive_store::MemoryStore;
@@ -74,6 +77,16 @@ impl Machine {
             ≡ with_device (after_write_pointer v (device self.old)) (physical self.old) }
     {
         self.drive.write_pointer(v);
+    }
+
+    /// The drive makes a step, and says whether it had an effect.
+    pub(crate) fn step(&mut self, step: Step) -> Stepped
+        ensures lawful { IsLawful (device self.old) }
+        ensures answer { result ≡ stepped_if (acts step (seen (physical self.old))) }
+        ensures after { physical self.new ≡ physical_step step (physical self.old) }
+    {
+        // A store in memory has no fault.
+        self.drive.step(step, &mut self.memory).unwrap()
     }
 
     /// The byte of the guest's memory at a place; FFh outside of it (own).

@@ -1,6 +1,6 @@
 //! One event of the schedule, on the network.
 
-ghost use Rattle.std.specs.Prelude.{Some, OnErr, OnOk, slice_get, if◌then◌else◌};
+ghost use Rattle.std.specs.Prelude.{◌≡◌, Some, IfOk, OnErr, OnOk, slice_get, if◌then◌else◌};
 ghost use Rattle.bm_host.specs.declared.Role.TheVariants.{Image};
 ghost use Rattle.bm_host.specs.Outside.{Counted, Reads, SameBytes};
 ghost use Rattle.image_server.specs.Serving.{HasImage, LooksAtSent};
@@ -8,6 +8,7 @@ ghost use Rattle.aoe_net.specs.Wire.{without};
 ghost use Rattle.aoe_net.specs.declared.way.Way.TheVariants.{ToServer};
 ghost use Rattle.streaming.specs.Network.{handed_to_server, taken_out};
 ghost use Rattle.world.specs.Conveying.{Conveys, NeedsSectors};
+ghost use Rattle.world.specs.Acting.{delivered};
 ghost use Rattle.world.specs.Looked.{LooksAtHanded};
 
 use aoe_frame::{Frame, a_frame_has_a_reading};
@@ -16,14 +17,16 @@ use bm_host::{Failed, Host};
 use image_server::serve;
 use schedule_text::Event;
 
-/// Lets the network, and the server at its end, act as one event says.
+/// Lets the network, and the server at its end, act as one event says, and answers the reply that it hands to the
+/// client, where there is one.
 pub(crate) fn convey<H: Host>(
     host: &mut H,
     net: &mut Net,
     sectors: u64,
     event: &Event,
-) -> Result<(), Failed>
+) -> Result<Option<Frame>, Failed>
     requires image { HasImage sectors (H.outside host.old) }
+    ensures frame { IfOk result (λ frame. frame ≡ delivered event.now net.old) }
     ensures network { OnOk result (Conveys sectors (H.outside host.old) (H.outside host.new)
         (handed_to_server event.now net.old) (taken_out event.now net.old) net.new) }
     ensures needed { OnErr result (NeedsSectors sectors (handed_to_server event.now net.old)) }
@@ -33,19 +36,17 @@ pub(crate) fn convey<H: Host>(
     ensures bytes { SameBytes (H.outside host.old) (H.outside host.new) }
 {
     match event {
-        Event::Deliver(Way::ToServer, k, keep) => deliver(host, net, sectors, *k, *keep),
-        // There is no client: what is delivered to it is lost.
+        Event::Deliver(Way::ToServer, k, keep) => deliver(host, net, sectors, *k, *keep)?,
         Event::Deliver(Way::ToClient, k, keep) => {
-            net.pick(Way::ToClient, *k, *keep);
-            Ok(())
+            return Ok(net.pick(Way::ToClient, *k, *keep));
         }
         Event::Lose(way, k) => {
             net.lose(*way, *k);
-            Ok(())
         }
-        Event::Stray(Way::ToServer, frame) => answer(host, net, sectors, frame),
-        _ => Ok(()),
+        Event::Stray(Way::ToServer, frame) => answer(host, net, sectors, frame)?,
+        _ => {}
     }
+    Ok(None)
 }
 
 // Request `k` is handed to the server.

@@ -1,7 +1,7 @@
 //! Events of the network over an empty image, and worlds over files in memory. The frames are by hand from the tables
 //! of docs/network.md, as hexadecimal with a space between two fields.
 
-ghost use Rattle.std.specs.Prelude.{◌≡◌, IfOk};
+ghost use Rattle.std.specs.Prelude.{◌≡◌, IfOk, None};
 ghost use Rattle.schedule_text.specs.Line.{IsInRange};
 
 use crate::network::convey;
@@ -217,7 +217,8 @@ fn host(alloc: Global, failing: &[u32]) -> Result<MemoryHost, Fail> {
 
 // Measures the disk, and begins a world over it.
 fn begin<H: Host>(alloc: Global, host: &mut H) -> Result<Result<World, StartFault>, Fail>
-    ensures { IfOk result (λ begun. IfOk begun (λ world. world.image ≡ 0)) }
+    ensures empty { IfOk result (λ begun. IfOk begun (λ world. world.scene.image ≡ 0)) }
+    ensures alone { IfOk result (λ begun. IfOk begun (λ world. world.scene.watched ≡ None)) }
 {
     if host.length(Role::Disk)? < 1024 {
         return Err("the disk is too short".into());

@@ -21,7 +21,8 @@ returns-in-Err-clause-told g c = unless_done c.report_stop.result
 pub returns-in-Err-clause-bad_line : goal.returns-in-Err-clause-bad_line
 returns-in-Err-clause-bad_line g c = rw c.report_stop.ensures.status
     (bad_line_status (Unit {0}) c.in-Err.stop _ _
-    (λ number kind. bad_line_told _ _ _ _ number kind c.report_stop.ensures.elsewhere) c.in-Err.ensures.bad)
+    (λ number kind. bad_line_told _ _ _ _ number kind c.report_stop.ensures.elsewhere c.report_stop.ensures.looked)
+    c.in-Err.ensures.bad)
 
 pub returns-in-Err-clause-reason : goal.returns-in-Err-clause-reason
 returns-in-Err-clause-reason g c = rw c.report_stop.ensures.status c.in-Err.ensures.reason
@@ -46,5 +47,6 @@ returns-in-Err-clause-owed g c = rw c.report_stop.ensures.status
     (owed_stop (texts c.args.words.now) (g.H.Host.outside c.args.host.now) (g.H.Host.outside c.report_stop.new.host)
     c.in-Err.stop c.in-Err.ensures.reason
     (bad_line_status (Unit {0}) c.in-Err.stop _ _
-    (λ number kind. bad_line_told _ _ _ _ number kind c.report_stop.ensures.elsewhere) c.in-Err.ensures.bad)
+    (λ number kind. bad_line_told _ _ _ _ number kind c.report_stop.ensures.elsewhere c.report_stop.ensures.looked)
+    c.in-Err.ensures.bad)
     (caused _ _ _ c.in-Err.stop c.in-Err.ensures.counts c.report_stop.ensures.counts))

@@ -16,7 +16,7 @@ returns-in-Err-clause-bad g c =
 
 pub loop-number-preserved : goal.loop-number-preserved
 loop-number-preserved g c =
-    PlaysOn-more _ _ _ _ _ _ _ _ _ c.loop-number.number c.loop-number.invariant
-    c.in-Ok-More.ensures.counts c.in-Ok-More.ensures.files c.in-Ok-More.ensures.looked c.in-Ok-More.ensures.image
+    PlaysOn-more c.args.image _ _ _ _ _ _ _ _ _ c.loop-number.number c.loop-number.invariant
+    c.in-Ok-More.ensures.counts c.in-Ok-More.ensures.files c.in-Ok-More.ensures.looked c.in-Ok-More.ensures.over
     (λ start was. rw c.in-Ok-More.field-0-is at (c.in-Ok-More.ensures.progress start was))
     (c.in-Ok-More.ensures.more c.in-Ok-More.field-0-is)

@@ -9,7 +9,7 @@ returns-clause-reported g c =
     (g.H.Host.outside c.args.host.now) (g.H.Host.outside c.play_to_end.new.host)
     (g.H.Host.outside c.report_end.new.host)
     (g.H.Host.outside c.flush.new.host)
-    _ _ c.in-Ok.number c.requires.nothing c.requires.ready c.new-streams.ensures.pending c.new-streams.ensures.block
+    _ _ c.in-Ok.number c.requires.ready c.new-streams.ensures.pending c.new-streams.ensures.block
     c.in-Ok.ensures.ended
     c.in-Ok.ensures.files c.in_ok-report_end.ensures.looked c.in_ok-flush.ensures.looked
     c.in_ok-report_end.ensures.reported.0 c.in_ok-flush.ensures.said c.in_ok-flush.ensures.empty
@@ -20,6 +20,6 @@ returns-in-Err-clause-bad g c =
     (λ number kind failed written.
     stopped c.new-streams.result c.play_to_end.new.streams (g.H.Host.outside c.args.host.now)
     (g.H.Host.outside c.play_to_end.new.host) _ _ number kind
-    c.requires.nothing c.requires.ready c.new-streams.ensures.pending c.new-streams.ensures.block failed
+    c.requires.ready c.new-streams.ensures.pending c.new-streams.ensures.block failed
     c.in-Err.ensures.files written)
     c.in-Err.ensures.bad c.in-Err.ensures.written

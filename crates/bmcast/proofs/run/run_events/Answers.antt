@@ -1,6 +1,7 @@
 use Rattle.std.specs.Prelude.{Err}
 use Rattle.std.proofs.Common.{◌∙◌}
 use Rattle.std.proofs.lemmas.Result.{on_ok_weaker}
+use Rattle.run_words.specs.Options.{seen}
 use Rattle.bmcast.proofs.StopLaws.{bad_line_weaker}
 use Rattle.bmcast.proofs.RunLaws.{done, bad_line, started_over}
 use Rattle.bmcast.proofs.run.run_events.Goals as goal
@@ -10,12 +11,12 @@ returns-in-Ok-report_run-clause-done g c = on_ok_weaker c.end_run.result
     (λ out.
     done (g.H.Host.outside c.args.host.now) (g.H.Host.outside c.begin_files.new.host)
     (g.H.Host.outside c.start.new.host) (g.H.Host.outside c.report_run.new.host) (g.H.Host.outside c.end_run.new.host)
-    c.in-Ok-start.world c.report_run.new.world c.args.options.now.memory c.args.setup.now.area.image
+    c.in-Ok-start.world.scene c.report_run.new.world.scene (seen c.args.options.now) c.args.setup.now.area.image
     c.in-Ok.ensures.files c.in-Ok-start.ensures.bytes c.in-Ok-report_run.ensures.files c.end_run.ensures.files
     (c.in-Ok-start.ensures.looked ∙ c.in-Ok.ensures.looked) c.end_run.ensures.looked
-    (started_over _ c.args.setup.now.area _ _ c.in-Ok-start.world c.in-Ok.ensures.files c.requires.area c.requires.empty
+    (started_over _ c.args.setup.now.area _ _ c.in-Ok-start.world.scene c.in-Ok.ensures.files c.requires.area
     c.in-Ok-start.ensures.began c.in-Ok-start.ensures.sectors c.in-Ok-start.ensures.disk)
-    c.in-Ok-report_run.ensures.image c.in-Ok-report_run.ensures.reported out)
+    c.in-Ok-report_run.ensures.reported out)
     c.end_run.ensures.out
 
 pub returns-in-Err-report_run-clause-bad : goal.returns-in-Err-report_run-clause-bad
@@ -24,9 +25,11 @@ returns-in-Err-report_run-clause-bad g c =
     (λ number kind stopped.
     bad_line (g.H.Host.outside c.args.host.now) (g.H.Host.outside c.begin_files.new.host)
     (g.H.Host.outside c.start.new.host) (g.H.Host.outside c.report_run.new.host)
-    c.in-Ok-start.world c.report_run.new.world c.args.options.now.memory c.args.setup.now.area.image number kind
+    c.in-Ok-start.world.scene c.report_run.new.world.scene (seen c.args.options.now) c.args.setup.now.area.image
+    number kind
     c.in-Ok.ensures.files c.in-Ok.ensures.ready c.in-Ok-start.ensures.bytes c.in-Err-report_run.ensures.files
-    (started_over _ c.args.setup.now.area _ _ c.in-Ok-start.world c.in-Ok.ensures.files c.requires.area c.requires.empty
+    (c.in-Ok-start.ensures.looked ∙ c.in-Ok.ensures.looked)
+    (started_over _ c.args.setup.now.area _ _ c.in-Ok-start.world.scene c.in-Ok.ensures.files c.requires.area
     c.in-Ok-start.ensures.began c.in-Ok-start.ensures.sectors c.in-Ok-start.ensures.disk)
-    c.in-Err-report_run.ensures.image stopped)
+    stopped)
     c.in-Err-report_run.ensures.bad

@@ -8,10 +8,10 @@ use Rattle.world.proofs.events.make_step.Goals as goal
 pub returns-clause-items : goal.returns-clause-items
 returns-clause-items c =
     step_told c.args.step (acts c.args.step (seen (physical c.args.machine.now))) _
-    (sym c.in_default.is ∙ (rw c.unwrap-stepped.ensures at c.step.ensures.answer))
+    (sym c.in_default.is ∙ c.step.ensures.answer)
     (rw (c.requires.items, c.step_item.ensures) at c.push.ensures.items)
 
 pub returns-in-Nothing-clause-items : goal.returns-in-Nothing-clause-items
 returns-in-Nothing-clause-items c =
     step_untold c.args.step (acts c.args.step (seen (physical c.args.machine.now))) _
-    (sym c.in-Nothing.is ∙ (rw c.unwrap-stepped.ensures at c.step.ensures.answer)) c.requires.items
+    (sym c.in-Nothing.is ∙ c.step.ensures.answer) c.requires.items

@@ -1,0 +1,19 @@
+use Rattle.std.proofs.Common.{◌≡◌, length}
+use Rattle.ata_taskfile.specs.Device.{Device}
+use Rattle.aoe_client.specs.Asking.{due_tags}
+use Rattle.streaming.specs.Client.{all_sent}
+use Rattle.mediator.specs.Mediator.{FitsDrive, client_of, with_client}
+use Rattle.world.proofs.Sending.{due_sent}
+use Rattle.world.proofs.deployed.send_all.Given as goal
+
+-- what is sent so far and what is still due make up what was due
+abbrev pub invariant-loop-frame : goal.invariant-loop-frame
+invariant-loop-frame l = record {
+  client : all_sent (client_of l.mediator) ≡ all_sent (client_of l.fn.mediator);
+  others : l.mediator ≡ with_client (client_of l.mediator) l.fn.mediator;
+  wire : due_sent (client_of l.mediator) l.net ≡ due_sent (client_of l.fn.mediator) l.fn.net;
+  fits : (d : Device) → FitsDrive l.fn.mediator d → FitsDrive l.mediator d;
+}
+
+abbrev pub decreases-loop-frame : goal.decreases-loop-frame
+decreases-loop-frame l = length (due_tags (client_of l.mediator))
