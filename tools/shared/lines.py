@@ -61,17 +61,18 @@ def event_of(line: str) -> Event:
 
 class Items(NamedTuple):
     """What a report tells of one event: the answer's bytes, the taken command with its range, the steps that went well,
-    whether a step failed, and the tags that were asked."""
+    whether a step failed, the tags that were asked, and the monitor's marks."""
 
     answer: bytes | None = None
     taken: tuple[int, int, int] | None = None
     steps: int = 0
     failed: bool = False
     asked: tuple[int, ...] = ()
+    marks: tuple[str, ...] = ()
 
 
 def items_of(lines: list[str]) -> Items:
-    answer, taken, steps, failed, asked = None, None, 0, False, []
+    answer, taken, steps, failed, asked, marks = None, None, 0, False, [], []
     for line in lines:
         if found := re.fullmatch(f"o {BYTES}", line):
             answer = bytes.fromhex(found[1])
@@ -83,7 +84,9 @@ def items_of(lines: list[str]) -> Items:
             failed = True
         elif found := re.fullmatch(f"a {NUMBER}", line):
             asked.append(int(found[1]))
-    return Items(answer, taken, steps, failed, tuple(asked))
+        elif line.startswith("m "):
+            marks.append(line)
+    return Items(answer, taken, steps, failed, tuple(asked), tuple(marks))
 
 
 class Report(NamedTuple):
