@@ -1,0 +1,6 @@
+pub mod Sets
+pub mod Held
+pub mod Values
+pub mod Survivals
+pub mod Starts
+pub mod Cuts
