@@ -4,3 +4,4 @@ pub mod Values
 pub mod Survivals
 pub mod Starts
 pub mod Cuts
+pub mod StepChanges
