@@ -20,3 +20,9 @@ pub mod Begun
 pub mod Shown
 pub mod SeenSteps
 pub mod Showing
+pub mod DrivesOrder
+pub mod Overlaid
+pub mod OverlaidSteps
+pub mod Openings
+pub mod OpeningJobs
+pub mod CutSectors

@@ -1,5 +1,5 @@
 -- While the client asks for the same, monitor and drive that fit go on to fit.
-use Rattle.std.proofs.Common.{◌≡◌, ℕ, ◌+◌, List, [], ◌∷◌, ◌++◌, Option, Some, None, refl, sym, ap, ◌∙◌, subst}
+use Rattle.std.proofs.Common.{◌≡◌, ℕ, ◌+◌, true, List, [], ◌∷◌, ◌++◌, Option, Some, None, refl, sym, ap, ◌∙◌, subst}
 use Rattle.std.specs.Prelude.{IfSome, IsSomeAnd}
 use Rattle.ata_taskfile.specs.declared.Request.{Request}
 use Rattle.ata_taskfile.specs.declared.Taken.{Taken}
@@ -23,6 +23,7 @@ use Rattle.monitor_state.specs.declared.state.Purpose.{Purpose}
 use Rattle.monitor_state.specs.declared.state.Purpose.TheVariants as purpose
 use Rattle.monitor_state.specs.declared.state.Plan.{Plan}
 use Rattle.monitor_state.specs.declared.state.Plan.TheVariants as plan
+use Rattle.monitor_state.specs.Classes.{class_of_order, is_drives_class, is_drives_in}
 use Rattle.monitor_state.specs.Leases.{AreLeased, leases_held, leases_in, leases_of_state}
 use Rattle.monitor_state.specs.Hand.{HasInHand, HoldsSector, IsEmptyHanded, IsWanted, Serves, WorksOn}
 use Rattle.monitor_state.specs.Fits.{Fits, FitsArea, FitsDevice, FitsParts, FitsPlan, FitsPurpose, FitsState, ReadsIn}
@@ -244,8 +245,18 @@ module _ (p : Parts) (c : Asking) (block : List ℕ) (same : BothAskTheSame p.cl
     state = state_fits s fits.state;
   }
 
+  same_class : (order : Taken) → is_drives_class (class_of_order order q) ≡ is_drives_class (class_of_order order p)
+  same_class (Good request) = refl
+  same_class (Bad reason) = refl
+
+  same_drives : (phase : Phase) → is_drives_in phase p ≡ true → is_drives_in phase q ≡ true
+  same_drives Reset gets = refl
+  same_drives Idle gets = refl
+  same_drives (Busy order done) gets = same_class order ∙ gets
+  same_drives (Ready order done left) gets = same_class order ∙ gets
+
   device_fits : (s : State) (d : Device) → FitsDevice s p d → FitsDevice s q d
-  device_fits (Guest side) d fits = fits
+  device_fits (Guest side) d fits = (fits.0, fits.1, same_drives d.file.phase fits.2)
   device_fits (Monitor side) d fits = fits
   device_fits (Running side own why) d fits = fits
   device_fits (Raising side dummy planned) d fits = fits

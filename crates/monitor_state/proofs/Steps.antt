@@ -29,7 +29,9 @@ use Rattle.monitor_state.specs.declared.state.State.{State}
 use Rattle.monitor_state.specs.declared.state.State.TheVariants.{Guest, Monitor, Running, Raising, Moving}
 use Rattle.monitor_state.specs.State.{is_opened}
 use Rattle.monitor_state.specs.Drive.{IsResting, IsStarting, RestsIn}
+use Rattle.monitor_state.specs.Classes.{is_drives_in}
 use Rattle.monitor_state.specs.Fits.{Fits, FitsDevice, FitsState}
+use Rattle.monitor_state.proofs.DrivesOrder.{step_order}
 
 starting_on : (v : View) (d e : Device) → e.file ≡ d.file → IsStarting v d → IsStarting v e
 starting_on v d e same rests = record {
@@ -116,6 +118,7 @@ device_stepped (Guest side) p step answer old new lawful state fits stepped =
       subst (λ (d : Device). IsKept (view_kept side) d.file) same
           (step-kept (view_kept side) step old fits.0),
       subst (IsGiven (view_kept side)) same (step-given (view_kept side) step old fits.1),
+      subst (λ (d : Device). is_drives_in d.file.phase p ≡ true) same (step_order step old p fits.2),
     )
 device_stepped (Monitor side) p step answer old new lawful state fits stepped =
     rests_well_on (view_held side) (is_opened p) (step_made step old).device new.device
@@ -145,6 +148,7 @@ device_let_go : (s : State) (p : Parts) (old new : Plain) → FitsDevice s p old
 device_let_go (Guest side) p old new fits went = (
   subst (λ (q : Plain). IsKept (view_kept side) q.device.file) (sym went.after) fits.0,
   subst (λ (q : Plain). IsGiven (view_kept side) q.device) (sym went.after) fits.1,
+  subst (λ (q : Plain). is_drives_in q.device.file.phase p ≡ true) (sym went.after) fits.2,
 )
 device_let_go (Monitor side) p old new fits went =
     rests_well_on (view_held side) (is_opened p) old.device new.device

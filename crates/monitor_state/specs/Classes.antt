@@ -2,6 +2,8 @@
 use Rattle.std.specs.Prelude.{Bool, true, false}
 use Rattle.ata_taskfile.specs.declared.Taken.{Taken}
 use Rattle.ata_taskfile.specs.declared.Taken.TheVariants.{Good, Bad}
+use Rattle.ata_taskfile.specs.declared.Phase.{Phase}
+use Rattle.ata_taskfile.specs.declared.Phase.TheVariants.{Reset, Idle, Busy, Ready}
 use Rattle.io_interpret.specs.declared.class.Class.{Class}
 use Rattle.io_interpret.specs.declared.class.Class.TheVariants.{Local, Redirected, FillFirst, Settle, Reserved, Other}
 use Rattle.io_interpret.specs.Class.{class_of_request}
@@ -25,3 +27,19 @@ is_refused_class Other = false
 -- an order that the monitor refuses
 abbrev pub is_refused : Taken → Parts → Bool
 is_refused order p = is_refused_class (class_of_order order p)
+
+-- the classes whose commands the drive gets (own)
+abbrev pub is_drives_class : Class → Bool
+is_drives_class Local = true
+is_drives_class Redirected = false
+is_drives_class FillFirst = false
+is_drives_class Settle = true
+is_drives_class Reserved = false
+is_drives_class Other = true
+
+-- the order in hand in a phase, if there is one, is one that the drive gets
+abbrev pub is_drives_in : Phase → Parts → Bool
+is_drives_in Reset p = true
+is_drives_in Idle p = true
+is_drives_in (Busy order done) p = is_drives_class (class_of_order order p)
+is_drives_in (Ready order done left) p = is_drives_class (class_of_order order p)

@@ -36,7 +36,7 @@ use Rattle.monitor_state.specs.declared.state.Plan.TheVariants as plan
 use Rattle.monitor_state.specs.declared.parts.Parts.{Parts}
 use Rattle.monitor_state.specs.State.{is_opened}
 use Rattle.monitor_state.specs.Leases.{AreLeased, leases_in}
-use Rattle.monitor_state.specs.Classes.{is_refused}
+use Rattle.monitor_state.specs.Classes.{is_drives_in, is_refused}
 use Rattle.monitor_state.specs.Hand.{HasInHand, IsEmptyHanded}
 use Rattle.monitor_state.specs.Drive.{RestsIn}
 
@@ -129,6 +129,7 @@ pub record FitsParts (s : State) (p : Parts) : Type 0 where
 -- how the drive stands in each state; steps of the drive keep it
 abbrev pub FitsDevice : State → Parts → Device → Type 0
 FitsDevice (Guest side) p d = IsKept (view_kept side) d.file × IsGiven (view_kept side) d
+    × (is_drives_in d.file.phase p ≡ true)
 FitsDevice (Monitor side) p d = RestsIn d.file.phase (view_held side) d
     × (is_in_reset d.file.phase ≡ true → is_opened p ≡ false)
 FitsDevice (Running side own why) p d = IsRunning (job_of own) (done_of own) d

@@ -13,3 +13,4 @@ pub mod SameAsks
 pub mod Seen
 pub mod Sectors
 pub mod GoesOn
+pub mod Overlaid

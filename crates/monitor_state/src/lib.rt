@@ -12,19 +12,23 @@
 //!
 //! `specs/Seen.antt` says what the guest sees, whoever has the drive, and when a plain drive is that (`Shows`),
 //! `Sectors` when what the guest gets of sectors is what such a drive has there, and `GoesOn` what a call that tells of
-//! steps makes of it.
+//! steps makes of it. `Overlaid` says whose value each sector has that a deployment gives its guest, and what a power
+//! cut would leave of it (`HasSectors`).
 //!
 //! The laws stand in `laws` (accesses, steps, power-on), `in_hand` (the view's own steps), `seen` (what the guest
-//! sees), `asks` (the client), `leases` and `starting`. `tests` is a table by hand of the calls of `Parts`.
+//! sees), `sectors` (whose value each sector has), `cuts` (what a guest finds at power-on, and after a cut), `asks`
+//! (the client), `leases` and `starting`. `tests` is a table by hand of the calls of `Parts`.
 
 #![tactic(auto)]
 
 mod asks;
+mod cuts;
 mod held;
 mod in_hand;
 mod laws;
 mod leases;
 mod parts;
+mod sectors;
 mod seen;
 mod setup;
 mod starting;
@@ -33,6 +37,10 @@ mod state;
 mod tests;
 
 pub use asks::{asks_stay, clients_buffers_are_of_the_pool, same_asks_keep_the_fit};
+pub use cuts::{
+    a_cut_leaves_what_the_plain_drive_may_have, an_opened_drive_has_its_header,
+    sectors_begin_as_the_guest_finds_them,
+};
 pub use held::{Hand, HeldPiece};
 pub use in_hand::{
     a_raised_interrupt_fits, planned_ends_leave_an_empty_hand, the_views_steps_keep_what_is_in_hand,
@@ -43,6 +51,10 @@ pub use laws::{
 };
 pub use leases::{a_buffer_is_free, leases_go_back_in_order};
 pub use parts::Parts;
+pub use sectors::{
+    register_accesses_keep_the_sectors, steps_keep_the_sectors,
+    the_guests_drive_reads_the_plain_drives_sectors,
+};
 pub use seen::{
     a_plain_drive_can_be_seen, destages_keep_what_is_seen, unseen_steps_keep_what_is_seen,
 };
