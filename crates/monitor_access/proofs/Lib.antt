@@ -4,3 +4,4 @@ pub mod Taking
 pub mod Beside
 pub mod Viewed
 pub mod Seen
+pub mod Opening

@@ -36,6 +36,7 @@ use Rattle.monitor_state.specs.Pieces.{ends_before, piece_let_go, tidied}
 use Rattle.monitor_state.specs.Seen.{Shows, block_offered, block_seen, bus_seen, file_seen, is_refused_in, refuses}
 use Rattle.monitor_state.proofs.Shown.{same_refused}
 use Rattle.monitor_access.specs.Marks.{mark_over, order_written}
+use Rattle.monitor_access.specs.Parts.{KeepsOthers}
 use Rattle.monitor_access.proofs.Beside.{accessed_as}
 use Rattle.monitor_access.proofs.Commands.{marked}
 
@@ -149,28 +150,23 @@ unmarked_served : (refused : Bool) → (if refused then Some item.Reserved else 
 unmarked_served true none = absurd cc
 unmarked_served false none = refl
 
--- what is let go changes neither area nor bitmap
-go_area : (ends : Bool) (p : Parts) → (if ends then piece_let_go p else p).area ≡ p.area
-go_area true p = refl
-go_area false p = refl
+-- what is let go is of the hand alone
+go_others : (ends : Bool) (p : Parts) → KeepsOthers p (if ends then piece_let_go p else p)
+go_others true p = refl
+go_others false p = refl
 
-go_bitmap : (ends : Bool) (p : Parts) → (if ends then piece_let_go p else p).bitmap ≡ p.bitmap
-go_bitmap true p = refl
-go_bitmap false p = refl
+pub left_others : (phase : Phase) (p : Parts) → KeepsOthers p (tidied phase p)
+left_others Reset p = refl
+left_others Idle p = refl
+left_others (Busy (Good order) done) p = go_others (ends_before (order.first + done) p.held) p
+left_others (Busy (Bad reason) done) p = refl
+left_others (Ready order done left) p = refl
 
 left_area : (phase : Phase) (p : Parts) → (tidied phase p).area ≡ p.area
-left_area Reset p = refl
-left_area Idle p = refl
-left_area (Busy (Good order) done) p = go_area (ends_before (order.first + done) p.held) p
-left_area (Busy (Bad reason) done) p = refl
-left_area (Ready order done left) p = refl
+left_area phase p = ap (λ (r : Parts). r.area) (left_others phase p)
 
 left_bitmap : (phase : Phase) (p : Parts) → (tidied phase p).bitmap ≡ p.bitmap
-left_bitmap Reset p = refl
-left_bitmap Idle p = refl
-left_bitmap (Busy (Good order) done) p = go_bitmap (ends_before (order.first + done) p.held) p
-left_bitmap (Busy (Bad reason) done) p = refl
-left_bitmap (Ready order done left) p = refl
+left_bitmap phase p = ap (λ (r : Parts). r.bitmap) (left_others phase p)
 
 -- on the monitor's side the guest sees a view
 pub record HasView (s : State) (v : View) (p : Parts) (d : Device) : Type 0 where

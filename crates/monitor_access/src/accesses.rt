@@ -9,6 +9,7 @@ ghost use Rattle.port_lease.specs.Free.{shows_rest as rests};
 ghost use Rattle.port_lease.specs.View.{is_command};
 ghost use Rattle.guest_view.specs.View.{is_reset};
 ghost use Rattle.monitor_state.specs.Fits.{Fits, IsBetweenEvents};
+ghost use Rattle.monitor_state.specs.Overlaid.{OpeningGoesOn};
 ghost use Rattle.monitor_state.specs.Seen.{Shows};
 ghost use Rattle.monitor_access.specs.Marks.{mark_due, mark_over, TakesNone};
 ghost use Rattle.monitor_access.specs.Parts.{parts_after, KeepsOthers};
@@ -55,6 +56,10 @@ pub fn accessed<P: Ports>(
     ensures marked { (memory : List ℕ) (q : Plain) →
         Shows state parts.old (P.device ports.old) memory q
         → result.2 ≡ mark_over q.device.file parts.old access.now }
+
+    // While opening hasn't ended the sectors of every such plain drive stay so.
+    ensures opening { OpeningGoesOn state parts.old (P.device ports.old)
+        result.0 parts.new (P.device ports.new) }
     ensures commands { TakesNone (P.device ports.old).file (P.device ports.new).file }
     ensures parts { parts.new ≡ parts_after result.0 parts.old }
     ensures others { KeepsOthers parts.old parts.new }
@@ -211,6 +216,8 @@ fn resting<P: Ports>(
         access.now result.2 result.0 parts.new (P.device ports.new) }
     ensures mark { result.2
         ≡ mark_due (State.Monitor side) parts.old (P.device ports.old) access.now }
+    ensures opening { OpeningGoesOn (State.Monitor side) parts.old (P.device ports.old)
+        result.0 parts.new (P.device ports.new) }
     ensures commands { TakesNone (P.device ports.old).file (P.device ports.new).file }
     ensures parts { parts.new ≡ parts_after result.0 parts.old }
     ensures others { KeepsOthers parts.old parts.new }
@@ -245,6 +252,8 @@ fn running<P: Ports>(
         access.now result.2 result.0 parts.new (P.device ports.new) }
     ensures mark { result.2
         ≡ mark_due (State.Running side own purpose) parts.old (P.device ports.old) access.now }
+    ensures opening { OpeningGoesOn (State.Running side own purpose) parts.old (P.device ports.old)
+        result.0 parts.new (P.device ports.new) }
     ensures commands { TakesNone (P.device ports.old).file (P.device ports.new).file }
     ensures parts { parts.new ≡ parts_after result.0 parts.old }
     ensures others { KeepsOthers parts.old parts.new }

@@ -39,7 +39,7 @@ stepped_there v kind effect old now given stepped = record {
 }
 
 -- a step is told where it has an effect, and else leaves the drive as it is
-effect_told : (kind : Step) (effect : Stepped) (there : Bool) (q : Plain) → acts kind q ≡ there
+pub effect_told : (kind : Step) (effect : Stepped) (there : Bool) (q : Plain) → acts kind q ≡ there
     → effect ≡ stepped_if there
     → ActsAlong (item_of (plan_of_step kind effect)) q
     × (step_made kind q ≡ planned (item_of (plan_of_step kind effect)) q)

@@ -18,7 +18,8 @@ use Rattle.monitor_state.specs.declared.state.State.TheVariants.{Monitor}
 use Rattle.monitor_turn.specs.Turned.{HasTurned}
 use Rattle.fill_bitmap.specs.declared.area.Area.{Area}
 use Rattle.fill_bitmap.specs.Bitmap.{Sets}
-use Rattle.io_interpret.specs.declared.class.Class.TheVariants.{Redirected}
+use Rattle.io_interpret.specs.declared.class.Class.{Class}
+use Rattle.io_interpret.specs.declared.class.Class.TheVariants.{Local, Redirected, FillFirst, Settle, Reserved, Other}
 use Rattle.io_interpret.specs.Class.{class_of_kind, class_of_request, reaches_reserved}
 use Rattle.port_lease.specs.declared.view.View.{View}
 use Rattle.port_lease.specs.declared.monitor_side.MonitorSide.{MonitorSide}
@@ -28,6 +29,7 @@ use Rattle.redirect.specs.declared.redirect.Redirect.{Redirect}
 use Rattle.redirect.specs.Next.{request_of}
 use Rattle.redirect.specs.Read.{IsRead, goes_inward}
 use Rattle.monitor_state.specs.declared.parts.Parts.{Parts}
+use Rattle.monitor_state.specs.Classes.{is_drives_class}
 use Rattle.monitor_state.specs.Fits.{Fits, FitsArea}
 use Rattle.monitor_state.specs.GoesOn.{GoesOn}
 use Rattle.monitor_state.specs.Hand.{HasInHand, HoldsSector, IsEmptyHanded, IsWanted, WorksOn}
@@ -63,6 +65,16 @@ redirected_kind kind.Verify request area sets is = absurd (grind (arith, is))
 redirected_kind kind.Flush request area sets is = absurd (grind (arith, is))
 redirected_kind kind.Identify request area sets is = absurd cc
 redirected_kind kind.Features request area sets is = absurd cc
+
+-- the drive gets the commands of each class but three
+pub drives_others : (class : Class) → (class ≡ Redirected → ⊥) → (class ≡ FillFirst → ⊥) → (class ≡ Reserved → ⊥)
+    → is_drives_class class ≡ true
+drives_others Local redirected fills reserved = refl
+drives_others Redirected redirected fills reserved = absurd (redirected refl)
+drives_others FillFirst redirected fills reserved = absurd (fills refl)
+drives_others Settle redirected fills reserved = refl
+drives_others Reserved redirected fills reserved = absurd (reserved refl)
+drives_others Other redirected fills reserved = refl
 
 -- nothing pends where nothing is done of the command
 pub fresh_calm : (v : View) (order : Taken) (sectors : ℕ) → FitsView v sectors → v.file.phase ≡ Busy order 0

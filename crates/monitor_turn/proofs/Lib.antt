@@ -14,3 +14,5 @@ pub mod Asked
 pub mod Collecting
 pub mod Taken
 pub mod OpeningLeft
+pub mod OpeningSectors
+pub mod OpeningEnds

@@ -10,13 +10,16 @@ ghost use Rattle.port_lease.specs.Free.{is_free};
 ghost use Rattle.port_lease.specs.Handover.{IsOrdered};
 ghost use Rattle.port_lease.specs.Sides.{has_own, view_held};
 ghost use Rattle.port_lease.specs.View.{IsLawfulView};
+ghost use Rattle.overlay.specs.Steps.{leaves_sectors};
 ghost use Rattle.monitor_state.specs.State.{is_opened};
+ghost use Rattle.monitor_state.specs.Classes.{class_of_order, is_drives_class};
 ghost use Rattle.monitor_state.specs.Fits.{Fits, FitsPlan};
 ghost use Rattle.monitor_state.specs.GoesOn.{GoesOn};
 ghost use Rattle.monitor_state.specs.declared.parts.Parts.{Parts as PartsOf};
 ghost use Rattle.schedule_text.specs.Taken.{command_item};
 ghost use Rattle.streaming.specs.Client.{ClientTurned};
 ghost use Rattle.streaming.specs.Monitor.{item_of};
+ghost use Rattle.monitor_turn.specs.Told.{tells_steps};
 ghost use Rattle.monitor_turn.specs.Turned.{HasTurned};
 
 use crate::redirected::redirected;
@@ -43,6 +46,8 @@ pub(crate) fn command<P: Ports>(
         result.0 result.1 parts.new (P.device ports.new) }
     ensures shown { GoesOn (State.Monitor side) parts.old (P.device ports.old) memory.old
         (item_of result.1) result.0 parts.new (P.device ports.new) memory.new }
+    ensures steps { tells_steps result.1 ≡ true
+        → leaves_sectors (view_held side).file.phase ≡ true }
     ensures client { ClientTurned parts.old.client parts.new.client }
     ensures memory { length memory.new ≡ length memory.old }
     ensures rest { P.rest ports.new ≡ P.rest ports.old }
@@ -77,6 +82,8 @@ fn by_class<P: Ports>(
         result.0 result.1 parts.new (P.device ports.new) }
     ensures shown { GoesOn (State.Monitor side) parts.old (P.device ports.old) memory.old
         (item_of result.1) result.0 parts.new (P.device ports.new) memory.new }
+    ensures steps { tells_steps result.1 ≡ true
+        → leaves_sectors (view_held side).file.phase ≡ true }
     ensures client { ClientTurned parts.old.client parts.new.client }
     ensures memory { length memory.new ≡ length memory.old }
     ensures rest { P.rest ports.new ≡ P.rest ports.old }
@@ -109,6 +116,8 @@ fn first_redirected<P: Ports>(
         result.0 result.1 parts.new (P.device ports.new) }
     ensures shown { GoesOn (State.Monitor side) parts.old (P.device ports.old) memory.old
         (item_of result.1) result.0 parts.new (P.device ports.new) memory.new }
+    ensures steps { tells_steps result.1 ≡ true
+        → leaves_sectors (view_held side).file.phase ≡ true }
     ensures client { ClientTurned parts.old.client parts.new.client }
     ensures memory { length memory.new ≡ length memory.old }
     ensures rest { P.rest ports.new ≡ P.rest ports.old }
@@ -135,6 +144,8 @@ pub(crate) fn raise<P: Ports>(
     ensures shown { (memory : List ℕ) → GoesOn (State.Monitor side)
         parts.now (P.device ports.old) memory
         (item_of result.1) result.0 parts.now (P.device ports.new) memory }
+    ensures steps { tells_steps result.1 ≡ true
+        → leaves_sectors (view_held side).file.phase ≡ true }
     ensures rest { P.rest ports.new ≡ P.rest ports.old }
     ensures reached { (origin : Device) → Reaches origin (P.device ports.old)
         → Reaches origin (P.device ports.new) }
@@ -156,11 +167,14 @@ fn given<P: Ports>(side: MonitorSide, order: Taken, ports: &mut P) -> (State, Op
     requires alone { has_own side ≡ false }
     requires free { is_free (P.device ports.old).file ≡ true }
     ensures turned { (p : PartsOf) → is_opened p ≡ true → p.hand.redirect ≡ None
+        → is_drives_class (class_of_order order p) ≡ true
         → Fits (State.Monitor side) p (P.device ports.old)
         → HasTurned p (P.device ports.old) result.0 result.1 p (P.device ports.new) }
     ensures shown { (p : PartsOf) (memory : List ℕ) → GoesOn (State.Monitor side)
         p (P.device ports.old) memory
         (item_of result.1) result.0 p (P.device ports.new) memory }
+    ensures steps { tells_steps result.1 ≡ true
+        → leaves_sectors (view_held side).file.phase ≡ true }
     ensures rest { P.rest ports.new ≡ P.rest ports.old }
     ensures reached { (origin : Device) → Reaches origin (P.device ports.old)
         → Reaches origin (P.device ports.new) }

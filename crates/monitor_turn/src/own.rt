@@ -1,15 +1,19 @@
 //! Own commands, and how they end.
 
-ghost use Rattle.std.specs.Prelude.{◌≡◌, ◌<◌, ◌≤◌, ◌*◌, ℕ, true, false, List, Some, None, if◌then◌else◌};
-ghost use Rattle.ata_taskfile.specs.Device.{Device};
+ghost use Rattle.std.specs.Prelude.{◌≡◌, ◌<◌, ◌≤◌, ◌*◌, ℕ, true, false, List, Some, None, IfSome, if◌then◌else◌};
+ghost use Rattle.ata_taskfile.specs.Device.{Cell, Device};
 ghost use Rattle.ata_taskfile.specs.Accesses.{Reaches};
+ghost use Rattle.ata_taskfile.specs.Sectors.{IsSector};
 ghost use Rattle.ata_taskfile.specs.declared.registers.TheConstants.{SECTOR_BYTES};
-ghost use Rattle.fill_store.specs.Opening.{jobs_of_opening, next_in_opening};
+ghost use Rattle.fill_store.specs.Opening.{bytes_to_open, jobs_of_opening, next_in_opening};
+ghost use Rattle.fill_store.specs.OpeningCells.{MadeByOpening, Opens};
+ghost use Rattle.fill_store.specs.Sectors.{IsOnKept, buffer_with};
 ghost use Rattle.own_pio.specs.declared.job.OwnJob.{OwnJob as JobOf};
 ghost use Rattle.own_pio.specs.Job.{command_of, count_of, job_order};
 ghost use Rattle.monitor_state.specs.State.{is_opened};
 ghost use Rattle.monitor_state.specs.Fits.{Fits, FitsArea};
 ghost use Rattle.monitor_state.specs.GoesOn.{GoesOn};
+ghost use Rattle.monitor_state.specs.Overlaid.{OpeningGoesOn};
 ghost use Rattle.schedule_text.specs.Taken.{command_item};
 ghost use Rattle.streaming.specs.Monitor.{item_of};
 ghost use Rattle.monitor_turn.specs.Opening.{OpeningFalls};
@@ -55,6 +59,8 @@ pub(crate) fn polled<P: Ports>(
     ensures client { parts.new.client ≡ parts.old.client }
     ensures progress { OpeningFalls (State.Running side own purpose)
         parts.old (P.device ports.old) result.0 parts.new (P.device ports.new) }
+    ensures opening { OpeningGoesOn (State.Running side own purpose)
+        parts.old (P.device ports.old) result.0 parts.new (P.device ports.new) }
     ensures rest { P.rest ports.new ≡ P.rest ports.old }
     ensures reached { (origin : Device) → Reaches origin (P.device ports.old)
         → Reaches origin (P.device ports.new) }
@@ -83,16 +89,29 @@ fn polled_opening<P: Ports>(
     ensures client { parts.new.client ≡ parts.old.client }
     ensures progress { OpeningFalls (State.Running side own Purpose.Opening)
         parts.old (P.device ports.old) result.0 parts.new (P.device ports.new) }
+    ensures opening { OpeningGoesOn (State.Running side own Purpose.Opening)
+        parts.old (P.device ports.old) result.0 parts.new (P.device ports.new) }
     ensures rest { P.rest ports.new ≡ P.rest ports.old }
     ensures reached { (origin : Device) → Reaches origin (P.device ports.old)
         → Reaches origin (P.device ports.new) }
 {
+    sector_is_whole(&parts.sector);
     let end = opening_bytes(parts);
     match own.poll(&mut side, ports, &mut parts.sector[..end]) {
         Poll::Waiting | Poll::Moved => (State::Running(side, own, Purpose::Opening), None),
-        Poll::Done => (State::Monitor(side), opening_told(true, parts)),
+        Poll::Done => {
+            sector_is_whole(&parts.sector);
+            (State::Monitor(side), opening_told(true, parts))
+        }
         Poll::Failed => (State::Monitor(side), opening_told(false, parts)),
     }
+}
+
+// What stands in the monitor's sector is the value of one.
+fn sector_is_whole(sector: &[u8; SECTOR_BYTES])
+    ensures { IsSector sector.now }
+{
+    let _first = sector.first();
 }
 
 // How many bytes the job has whose command stands.
@@ -100,6 +119,7 @@ fn opening_bytes(parts: &Parts) -> usize
     ensures bytes { (job : JobOf) → next_in_opening parts.now.opening ≡ Some job
         → result ≡ SECTOR_BYTES * count_of job }
     ensures most { result ≤ SECTOR_BYTES }
+    ensures kept { IfSome (next_in_opening parts.now.opening) (IsOnKept parts.now.opening.area) }
 {
     match parts.opening.next() {
         Some(OwnJob::Read(..) | OwnJob::Write(..)) => SECTOR_BYTES,
@@ -121,6 +141,12 @@ fn opening_told(ok: bool, parts: &mut Parts) -> Option<Item>
     ensures lowered { ok ≡ true
         → jobs_of_opening parts.new.opening < jobs_of_opening parts.old.opening }
     ensures failed { ok ≡ false → parts.new.opening ≡ parts.old.opening }
+    ensures opens { (disk : List (List ℕ)) (old new : List Cell) →
+        Opens disk parts.old.opening parts.old.bitmap old
+        → MadeByOpening ok parts.old.opening parts.old.sector old new
+        → Opens disk parts.new.opening parts.new.bitmap new }
+    ensures buffer { parts.new.sector
+        ≡ buffer_with (bytes_to_open parts.new.opening) parts.old.sector }
 {
     let Some(_job) = parts.opening.next() else {
         return None;
@@ -181,7 +207,8 @@ fn polled_piece<P: Ports>(
     }
 }
 
-/// The opening's next command begins, unless the drive is at work.
+/// The opening's next command begins, unless the drive is at work. While opening hasn't ended, the sectors of every
+/// such plain drive stay so.
 pub(crate) fn opening_next<P: Ports>(
     mut side: MonitorSide,
     parts: &Parts,
@@ -196,6 +223,8 @@ pub(crate) fn opening_next<P: Ports>(
         (item_of result.1) result.0 parts.now (P.device ports.new) memory }
     ensures progress { OpeningFalls (State.Monitor side) parts.now (P.device ports.old)
         result.0 parts.now (P.device ports.new) }
+    ensures opening { OpeningGoesOn (State.Monitor side) parts.now (P.device ports.old)
+        result.0 parts.now (P.device ports.new) }
     ensures rest { P.rest ports.new ≡ P.rest ports.old }
     ensures reached { (origin : Device) → Reaches origin (P.device ports.old)
         → Reaches origin (P.device ports.new) }
@@ -206,6 +235,7 @@ pub(crate) fn opening_next<P: Ports>(
     if has_bit(BSY, ports.read8(Reg::Alternate)) {
         return (State::Monitor(side), None);
     }
+    sector_is_whole(&parts.sector);
     let own = Own::begin(&mut side, ports, job);
     (
         State::Running(side, own, Purpose::Opening),

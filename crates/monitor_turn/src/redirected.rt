@@ -15,6 +15,7 @@ ghost use Rattle.redirect.specs.Read.{sector_in};
 ghost use Rattle.redirect.specs.Scatter.{at_position};
 ghost use Rattle.redirect.specs.Meaning.{IsReadable, IsServed};
 ghost use Rattle.redirect.specs.Next.{request_of};
+ghost use Rattle.overlay.specs.Steps.{leaves_sectors};
 ghost use Rattle.monitor_state.specs.State.{is_opened, range_of};
 ghost use Rattle.monitor_state.specs.Leases.{AreLeased, leases_of_parts};
 ghost use Rattle.monitor_state.specs.Fits.{Fits, FitsArea, FitsParts};
@@ -24,7 +25,7 @@ ghost use Rattle.streaming.specs.Client.{ClientTurned, HasAsked};
 ghost use Rattle.streaming.specs.Monitor.{item_of};
 ghost use Rattle.monitor_turn.specs.Collected.{collected};
 ghost use Rattle.monitor_turn.specs.Turned.{HasTurned};
-ghost use Rattle.monitor_turn.specs.Told.{steps_told};
+ghost use Rattle.monitor_turn.specs.Told.{steps_told, tells_steps};
 ghost use Rattle.monitor_turn.specs.Work.{IsWorkedOn};
 
 use crate::commands::raise;
@@ -53,6 +54,8 @@ pub(crate) fn redirected<P: Ports>(
         result.0 result.1 parts.new (P.device ports.new) }
     ensures shown { GoesOn (State.Monitor side) parts.old (P.device ports.old) memory.old
         (item_of result.1) result.0 parts.new (P.device ports.new) memory.new }
+    ensures steps { tells_steps result.1 ≡ true
+        → leaves_sectors (view_held side).file.phase ≡ true }
     ensures client { ClientTurned parts.old.client parts.new.client }
     ensures memory { length memory.new ≡ length memory.old }
     ensures rest { P.rest ports.new ≡ P.rest ports.old }

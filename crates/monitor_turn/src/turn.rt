@@ -6,13 +6,17 @@ ghost use Rattle.ata_taskfile.specs.Lawful.{is_in_reset};
 ghost use Rattle.ata_taskfile.specs.Device.{Device};
 ghost use Rattle.ata_taskfile.specs.Accesses.{Reaches};
 ghost use Rattle.port_lease.specs.Sides.{view_held};
+ghost use Rattle.overlay.specs.Steps.{leaves_sectors};
 ghost use Rattle.monitor_state.specs.State.{is_opened};
 ghost use Rattle.monitor_state.specs.Fits.{Fits, IsBetweenEvents};
 ghost use Rattle.monitor_state.specs.GoesOn.{GoesOn};
+ghost use Rattle.monitor_state.specs.Overlaid.{OpeningGoesOn};
+ghost use Rattle.monitor_state.specs.Seen.{file_seen};
 ghost use Rattle.streaming.specs.Client.{ClientTurned};
 ghost use Rattle.monitor_turn.specs.Opening.{OpeningFalls};
 ghost use Rattle.streaming.specs.Monitor.{item_of};
 ghost use Rattle.streaming.specs.Told.{MayTell};
+ghost use Rattle.monitor_turn.specs.Told.{tells_steps};
 ghost use Rattle.monitor_turn.specs.Turned.{HasTurned, KeepsImage, TellsCommand, TellsReady};
 
 use crate::commands::command;
@@ -28,8 +32,9 @@ use schedule_text::Item;
 /// One turn: the state after it, and its line: a command that was given, good steps of the plain drive, or that
 /// opening has ended.
 ///
-/// A block that is to be obtained is asked of the client. While opening hasn't ended less is left of it after each turn
-/// at which the drive isn't at work.
+/// Steps are told of a reset and of a read alone, which change no sector. A block that is to be obtained is asked of
+/// the client. While opening hasn't ended less is left of it after each turn at which the drive isn't at work, and the
+/// sectors of every plain drive stay those that the deployment gives its guest, also where it ends now.
 pub fn turned<P: Ports>(
     state: State,
     parts: &mut Parts,
@@ -45,9 +50,13 @@ pub fn turned<P: Ports>(
     ensures plan { MayTell result.1 }
     ensures shown { GoesOn state parts.old (P.device ports.old) memory.old
         (item_of result.1) result.0 parts.new (P.device ports.new) memory.new }
+    ensures steps { tells_steps result.1 ≡ true
+        → leaves_sectors (file_seen state (P.device ports.old)).phase ≡ true }
     ensures client { ClientTurned parts.old.client parts.new.client }
     ensures image { KeepsImage parts.old parts.new }
     ensures progress { OpeningFalls state parts.old (P.device ports.old)
+        result.0 parts.new (P.device ports.new) }
+    ensures opening { OpeningGoesOn state parts.old (P.device ports.old)
         result.0 parts.new (P.device ports.new) }
     ensures memory { length memory.new ≡ length memory.old }
     ensures rest { P.rest ports.new ≡ P.rest ports.old }
@@ -75,6 +84,8 @@ fn taken<P: Ports>(
         result.0 result.1 parts.new (P.device ports.new) }
     ensures shown { GoesOn (State.Guest side) parts.old (P.device ports.old) memory.old
         (item_of result.1) result.0 parts.new (P.device ports.new) memory.new }
+    ensures steps { tells_steps result.1 ≡ true
+        → leaves_sectors (P.device ports.old).file.phase ≡ true }
     ensures client { ClientTurned parts.old.client parts.new.client }
     ensures memory { length memory.new ≡ length memory.old }
     ensures rest { P.rest ports.new ≡ P.rest ports.old }
@@ -99,8 +110,12 @@ fn monitor<P: Ports>(
         result.0 result.1 parts.new (P.device ports.new) }
     ensures shown { GoesOn (State.Monitor side) parts.old (P.device ports.old) memory.old
         (item_of result.1) result.0 parts.new (P.device ports.new) memory.new }
+    ensures steps { tells_steps result.1 ≡ true
+        → leaves_sectors (view_held side).file.phase ≡ true }
     ensures client { ClientTurned parts.old.client parts.new.client }
     ensures progress { OpeningFalls (State.Monitor side) parts.old (P.device ports.old)
+        result.0 parts.new (P.device ports.new) }
+    ensures opening { OpeningGoesOn (State.Monitor side) parts.old (P.device ports.old)
         result.0 parts.new (P.device ports.new) }
     ensures memory { length memory.new ≡ length memory.old }
     ensures rest { P.rest ports.new ≡ P.rest ports.old }
@@ -126,6 +141,8 @@ fn restarted<P: Ports>(mut side: MonitorSide, parts: &Parts, ports: &mut P) -> (
     ensures shown { (memory : List ℕ) → GoesOn (State.Monitor side)
         parts.now (P.device ports.old) memory
         (item_of result.1) result.0 parts.now (P.device ports.new) memory }
+    ensures steps { tells_steps result.1 ≡ true
+        → leaves_sectors (view_held side).file.phase ≡ true }
     ensures unmoved { P.device ports.new ≡ P.device ports.old }
     ensures rest { P.rest ports.new ≡ P.rest ports.old }
     ensures reached { (origin : Device) → Reaches origin (P.device ports.old)

@@ -1,5 +1,6 @@
 use Rattle.std.proofs.Common.{◌∙◌}
 use Rattle.monitor_state.specs.Seen.{file_seen}
+use Rattle.monitor_access.proofs.Opening.{guest_goes_on, raising_goes_on}
 use Rattle.monitor_access.proofs.Seen.{answered_alike, marked_alike}
 use Rattle.monitor_access.proofs.accesses.accessed.Goals as goal
 
@@ -16,6 +17,11 @@ returns-in-Guest-clause-marked g c = λ memory q shows.
     rw c.in-Guest.is c.guest.ensures.mark
     ∙ marked_alike q.device.file (file_seen c.args.state (g.P.Ports.device c.args.ports.now)) c.args.parts.now
     c.args.access.now shows.file
+
+pub returns-in-Guest-clause-opening : goal.returns-in-Guest-clause-opening
+returns-in-Guest-clause-opening g c =
+    guest_goes_on c.args.state c.guest.result.0 c.in-Guest.side c.args.parts.now c.guest.new.parts
+    (g.P.Ports.device c.args.ports.now) (g.P.Ports.device c.guest.new.ports) c.in-Guest.is c.requires.fits
 
 pub returns-in-Monitor-clause-shown : goal.returns-in-Monitor-clause-shown
 returns-in-Monitor-clause-shown g c = rw c.in-Monitor.is c.resting.ensures.shown
@@ -58,3 +64,9 @@ returns-in-Raising-clause-marked g c = λ memory q shows.
     rw c.in-Raising.is c.raising.ensures.mark
     ∙ marked_alike q.device.file (file_seen c.args.state (g.P.Ports.device c.args.ports.now)) c.args.parts.now
     c.args.access.now shows.file
+
+pub returns-in-Raising-clause-opening : goal.returns-in-Raising-clause-opening
+returns-in-Raising-clause-opening g c =
+    raising_goes_on c.args.state c.raising.result.0 c.in-Raising.side c.in-Raising.dummy c.in-Raising.plan
+    c.args.parts.now c.raising.new.parts (g.P.Ports.device c.args.ports.now)
+    (g.P.Ports.device c.raising.new.ports) c.in-Raising.is c.requires.fits

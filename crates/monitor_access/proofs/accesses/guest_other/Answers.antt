@@ -14,7 +14,7 @@ returns-clause-fits g c =
     let call = c.access-answer in
     guest_fits c.args.side call.new.self c.args.parts.now c.args.access.now (g.P.Ports.device c.args.ports.now)
     (g.P.Ports.device call.new.ports) call.ensures.drive call.ensures.kept
-    (call.ensures.given c.requires.fits.device.1) c.requires.fits
+    (call.ensures.given c.requires.fits.device.1) c.requires.other c.requires.no_reset c.requires.fits
 
 pub returns-clause-commands : goal.returns-clause-commands
 returns-clause-commands g c =

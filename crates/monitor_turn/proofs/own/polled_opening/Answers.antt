@@ -1,9 +1,12 @@
-use Rattle.std.proofs.Common.{◌&&◌, Bool, refl, sym, ap, ◌∙◌, subst}
+use Rattle.std.proofs.Common.{◌&&◌, ◌≤◌, Bool, drop, refl, sym, ap, ◌∙◌, subst}
+use Rattle.std.proofs.lemmas.List.{length-take-le}
+use Rattle.own_pio.specs.Own.{job_of}
 use Rattle.port_lease.specs.Sides.{has_own}
 use Rattle.monitor_state.specs.declared.parts.Parts.{Parts}
 use Rattle.monitor_state.specs.declared.state.State.TheVariants.{Monitor}
 use Rattle.monitor_state.specs.Fits.{FitsArea}
 use Rattle.monitor_turn.specs.Turned.{HasTurned}
+use Rattle.monitor_turn.proofs.OpeningEnds.{done_sectors, failed_sectors, goes_sectors}
 use Rattle.monitor_turn.proofs.OpeningPolled.{opening_goes, opening_polled}
 use Rattle.monitor_turn.proofs.Polls.{goes, taken_before}
 use Rattle.monitor_turn.proofs.own.polled_opening.Goals as goal
@@ -35,3 +38,45 @@ returns-in-Failed-clause-turned g c =
     c.requires.fits (subst FitsArea t.ensures.others t.ensures.area) r.own r.view (r.free refl) r.unseen.sectors
     t.ensures.told in
     subst (λ (q : Parts). HasTurned p d (Monitor c.poll.new.side) t.result q e) (sym t.ensures.others) made
+
+pub returns-in-Waiting-clause-opening : goal.returns-in-Waiting-clause-opening
+returns-in-Waiting-clause-opening g c =
+    let r = c.poll.ensures in
+    let p = c.args.parts.now in
+    let own = c.args.own in
+    let end = c.opening_bytes-end.result in
+    let told = c.opening_bytes-end.ensures in
+    let end_is = told.bytes (job_of own) c.requires.fits.parts.state.5.0 in
+    let long = c.poll.auto.bytes
+    ∙ length-take-le end p.sector (subst (λ n. end ≤ n) (sym c.sector_is_whole.ensures.size) told.most) ∙ end_is in
+    goes_sectors c.args.side c.poll.new.side own p (g.P.Ports.device c.args.ports.now)
+    (g.P.Ports.device c.poll.new.ports) end c.poll.new.bytes (drop end p.sector) c.poll.result c.requires.fits
+    told.kept end_is long r.bytes r.kept
+    c.poll.new.self r.job r.left c.in-Waiting.is
+
+pub returns-in-Done-clause-opening : goal.returns-in-Done-clause-opening
+returns-in-Done-clause-opening g c =
+    let r = c.poll.ensures in
+    let p = c.args.parts.now in
+    let own = c.args.own in
+    let end = c.opening_bytes-end.result in
+    let told = c.opening_bytes-end.ensures in
+    let end_is = told.bytes (job_of own) c.requires.fits.parts.state.5.0 in
+    let long = c.poll.auto.bytes
+    ∙ length-take-le end p.sector (subst (λ n. end ≤ n) (sym c.sector_is_whole.ensures.size) told.most) ∙ end_is in
+    let t = c.opening_told in
+    let q = t.new.parts in
+    done_sectors c.args.side c.poll.new.side own p (g.P.Ports.device c.args.ports.now)
+    (g.P.Ports.device c.poll.new.ports) end c.poll.new.bytes (drop end p.sector) c.poll.result c.requires.fits
+    told.kept end_is long r.bytes r.kept
+    q c.in-Done.is c.sector_is_whole-in-Done.ensures (g.met.P.Ports.whole c.poll.new.ports)
+    (ap (λ (x : Parts). x.area) t.ensures.others) (ap (λ (x : Parts). x.id) t.ensures.others) t.ensures.area
+    t.ensures.opens t.ensures.buffer
+
+pub returns-in-Failed-clause-opening : goal.returns-in-Failed-clause-opening
+returns-in-Failed-clause-opening g c =
+    let t = c.opening_told-in-Failed in
+    failed_sectors c.args.side c.poll.new.side c.args.own c.args.parts.now t.new.parts
+    (g.P.Ports.device c.args.ports.now) (g.P.Ports.device c.poll.new.ports) _ c.requires.fits
+    c.in-Failed.ensures.unseen.cells (ap (λ (x : Parts). x.area) t.ensures.others)
+    (ap (λ (x : Parts). x.id) t.ensures.others) t.ensures.area t.ensures.opens t.ensures.buffer
