@@ -1,11 +1,15 @@
 -- What a call leaves of the plain drives for which a mediator stands.
-use Rattle.std.proofs.Common.{◌≡◌, ℕ, List, [], ◌∷◌, ◌++◌, Option, refl, sym, ap, ◌∙◌, subst}
+use Rattle.std.proofs.Common.{◌≡◌, ℕ, ◌<◌, length, List, [], ◌∷◌, ◌++◌, Option, refl, sym, ap, ◌∙◌, subst}
 use Rattle.std.proofs.lemmas.List.{append_cancel_left}
 use Rattle.ata_taskfile.specs.Accesses.{Reaches}
 use Rattle.ata_taskfile.specs.Device.{Cell, Device, powered_on}
+use Rattle.ata_taskfile.specs.Lawful.{IsLawful}
 use Rattle.aoe_client.specs.Asking.{Asking}
 use Rattle.plain_drive.specs.Alike.{block_matters, without_command}
-use Rattle.plain_drive.specs.Plain.{Plain, plain}
+use Rattle.fill_bitmap.specs.declared.area.Area.{Area}
+use Rattle.fill_bitmap.specs.Area.{IsSuitable}
+use Rattle.fill_bitmap.specs.Disk.{guest_view, stored_blocks}
+use Rattle.plain_drive.specs.Plain.{Plain, plain, stored}
 use Rattle.port_lease.specs.declared.view.View.{View}
 use Rattle.port_lease.specs.Seen.{bus_beside}
 use Rattle.port_lease.specs.Sides.{view_held}
@@ -20,12 +24,17 @@ use Rattle.streaming.proofs.Untold.{none_due}
 use Rattle.monitor_state.specs.declared.state.State.{State}
 use Rattle.monitor_state.specs.declared.state.State.TheVariants.{Guest, Monitor, Running, Raising, Moving}
 use Rattle.monitor_state.specs.declared.parts.Parts.{Parts}
+use Rattle.monitor_state.specs.Fits.{Fits}
 use Rattle.monitor_state.specs.GoesOn.{GoesOn}
+use Rattle.monitor_state.specs.Overlaid.{HasSectors, Known}
 use Rattle.monitor_state.specs.Seen.{Shows, is_refused_in}
+use Rattle.monitor_state.specs.Start.{IsBegun}
+use Rattle.monitor_state.proofs.Openings.{begun_sectors}
 use Rattle.monitor_state.proofs.Shown.{same_refused, same_seen}
 use Rattle.mediator.specs.declared.mediator.Mediator.{Mediator}
 use Rattle.mediator.specs.Couples.{KeepsAll, KeepsAlong, StandsAtPowerOn, line_of}
-use Rattle.mediator.specs.Mediator.{StartsWith, parts_of, state_of, with_client}
+use Rattle.mediator.specs.Mediator.{IsAtPowerOn, StartsWith, parts_of, state_of, with_client}
+use Rattle.mediator.proofs.Sectors.{client_sectors, sectors_agree}
 use Rattle.mediator.proofs.Told.{told_acts, told_planned}
 
 reached_itself : (d : Device) → Reaches d d
@@ -47,17 +56,26 @@ unmoved_told call q given d lines none told =
 -- a call that told this, and sent these requests
 pub along_kept : (call : Call) (m n : Mediator) (d e : Device) (memory left : List ℕ) (told : Option Item)
     (tags : List ℕ) (before after : List Item) → after ≡ before ++ (item_of told ++ asked_items tags)
+    → IsLawful d → Fits (state_of m) (parts_of m) d
     → GoesOn (state_of m) (parts_of m) d memory (item_of told) (state_of n) (parts_of n) e left
+    → ((k : Known) (q : Plain) → Shows (state_of m) (parts_of m) d memory q
+    → HasSectors k (state_of m) (parts_of m) d q.device.cells
+    → HasSectors k (state_of n) (parts_of n) e (planned (item_of told) q).device.cells)
     → ((q : Plain) (lines : List Line) (given : List Item) → given ≡ item_of told ++ asked_items tags
     → IsTold d.file lines → IsTold e.file (line_of call q given ∷ lines))
     → KeepsAlong call before after m d memory n e left
-along_kept call m n d e memory left told tags before after items goes_on is_told = λ q lines given is couples sectors.
+along_kept call m n d e memory left told tags before after items lawful fits goes_on sectors is_told =
+    λ k q lines given is couples pieces.
     let same : given ≡ item_of told ++ asked_items tags = append_cancel_left before _ _ (sym is ∙ items) in
-    let goes = goes_on q couples.shows sectors in (
+    let made : planned given q ≡ planned (item_of told) q =
+    ap (λ xs. planned xs q) same ∙ told_planned told tags q in
+    let agree = sectors_agree k (state_of m) (parts_of m) d q lawful fits couples.sectors pieces.held pieces.came in
+    let goes = goes_on q couples.shows agree in (
       subst (λ xs. ActsAlong xs q) (sym same) (told_acts told tags q goes.0),
       record {
-        shows = subst (λ r. Shows (state_of n) (parts_of n) e left r)
-            (sym (ap (λ xs. planned xs q) same ∙ told_planned told tags q)) goes.1;
+        shows = subst (λ r. Shows (state_of n) (parts_of n) e left r) (sym made) goes.1;
+        sectors = subst (λ (r : Plain). HasSectors k (state_of n) (parts_of n) e r.device.cells) (sym made)
+            (sectors k q couples.shows couples.sectors);
         told = is_told q lines given same couples.told;
       },
     )
@@ -86,11 +104,13 @@ client_shown Moving p c d memory q shows =
 -- a call in which no more changed than what the client asks for
 pub client_kept : (call : Call) (m n : Mediator) (c : Asking) (given before after : List Item) → n ≡ with_client c m
     → after ≡ before ++ given → commands_in given ≡ [] → KeepsAll call before after m n
-client_kept call m n c gave before after is items none = λ d memory q lines given says couples.
+client_kept call m n c gave before after is items none = λ k d memory q lines given says couples.
     let same : given ≡ gave = append_cancel_left before _ _ (sym says ∙ items) in
     record {
       shows = subst (λ (x : Mediator). Shows (state_of x) (parts_of x) d memory q) (sym is)
           (client_shown (state_of m) (parts_of m) c d memory q couples.shows);
+      sectors = subst (λ (x : Mediator). HasSectors k (state_of x) (parts_of x) d q.device.cells) (sym is)
+          (client_sectors k (state_of m) (parts_of m) c (parts_of m).pool d q.device.cells couples.sectors);
       told = unmoved_told call q given d lines (ap commands_in same ∙ none) couples.told;
     }
 
@@ -110,8 +130,33 @@ started_shown (Monitor side) p cells shown memory starts = record {
   served = ap (λ (v : View). is_refused_in v.file.phase p) starts.view;
 }
 
-pub stands_at_power_on : (m : Mediator) → StartsWith (state_of m) → StandsAtPowerOn m
-stands_at_power_on m starts = λ cells shown memory lines. record {
-  shows = started_shown (state_of m) (parts_of m) cells shown memory starts;
-  told = tt;
-}
+-- and its sectors are those that it finds on the disk
+started_sectors : (image disk : List (List ℕ)) (s : State) (p : Parts) (buffers : ℕ) → StartsWith s
+    → IsSuitable p.area → 0 < p.area.image → length disk ≡ p.area.sectors → IsBegun p.area p.id buffers p
+    → HasSectors (record { image = image; disk = disk; durable = stored_blocks p.area p.id disk }) s p
+    (powered_on (stored disk) p.area.sectors) (stored (guest_view p.area p.id image disk))
+started_sectors image disk (Guest side) p buffers starts suitable some long begun = absurd starts
+started_sectors image disk (Running side own why) p buffers starts suitable some long begun = absurd starts
+started_sectors image disk (Raising side dummy kind) p buffers starts suitable some long begun = absurd starts
+started_sectors image disk Moving p buffers starts suitable some long begun = absurd starts
+started_sectors image disk (Monitor side) p buffers starts suitable some long begun =
+    begun_sectors image disk p.area p.id buffers p side suitable some long begun
+
+-- parts that are begun over an area, for a run, are so over their own
+own_begun : (area : Area) (id buffers : ℕ) (p : Parts) → IsBegun area id buffers p → IsBegun p.area p.id buffers p
+own_begun area id buffers p begun =
+    subst (λ (a : Area). IsBegun a p.id buffers p) (sym begun.area_is)
+    (subst (λ (i : ℕ). IsBegun area i buffers p) (sym begun.id_is) begun)
+
+pub stands_at_power_on : (area : Area) (id buffers : ℕ) (m : Mediator) → IsSuitable area → 0 < area.image
+    → IsAtPowerOn area id buffers m → StandsAtPowerOn m
+stands_at_power_on area id buffers m suitable some begun = λ image disk memory lines long.
+    let p = parts_of m in record {
+      shows = started_shown (state_of m) p (stored disk) (stored (guest_view p.area p.id image disk)) memory
+          begun.state;
+      sectors = started_sectors image disk (state_of m) p buffers begun.state
+          (subst IsSuitable (sym begun.parts.area_is) suitable)
+          (subst (λ (a : Area). 0 < a.image) (sym begun.parts.area_is) some) long
+          (own_begun area id buffers p begun.parts);
+      told = tt;
+    }

@@ -5,4 +5,5 @@ pub mod DueItems
 pub mod Stepped
 pub mod Standing
 pub mod Told
+pub mod Sectors
 pub mod Coupled

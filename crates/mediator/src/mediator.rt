@@ -12,6 +12,7 @@ ghost use Rattle.aoe_client.specs.Asking.{both_ticked, due_tags, next_sent};
 ghost use Rattle.aoe_client.specs.Messages.{request_frame};
 ghost use Rattle.guest_view.specs.View.{is_reset};
 ghost use Rattle.monitor_state.specs.Setup.{IsSetup};
+ghost use Rattle.monitor_state.specs.Overlaid.{Known};
 ghost use Rattle.monitor_state.specs.State.{view_of};
 ghost use Rattle.monitor_access.specs.Seen.{IsAnswered};
 ghost use Rattle.monitor_access.specs.Marks.{TakesNone, mark_due, mark_over};
@@ -117,17 +118,17 @@ impl Mediator {
 
         // For every plain drive for which mediator, drive and memory stand: the answer is its own, a command is marked
         // exactly where it takes it and the monitor refuses it, and without a mark they stand for it afterwards.
-        ensures answers { (q : Plain) (lines : List Line) →
-            Couples self.old (P.device ports.old) _memory.old q lines
+        ensures answers { (k : Known) (q : Plain) (lines : List Line) →
+            Couples k self.old (P.device ports.old) _memory.old q lines
             → result ≡ answer_to access.now q.device }
-        ensures marked { (q : Plain) (lines : List Line) →
-            Couples self.old (P.device ports.old) _memory.old q lines
+        ensures marked { (k : Known) (q : Plain) (lines : List Line) →
+            Couples k self.old (P.device ports.old) _memory.old q lines
             → out.new.items.items ≡ out.old.items.items
             ++ item_of (mark_over q.device.file (parts_of self.old) access.now) }
-        ensures kept { (q : Plain) (lines : List Line) →
-            Couples self.old (P.device ports.old) _memory.old q lines
+        ensures kept { (k : Known) (q : Plain) (lines : List Line) →
+            Couples k self.old (P.device ports.old) _memory.old q lines
             → mark_over q.device.file (parts_of self.old) access.now ≡ None
-            → Couples self.new (P.device ports.new) _memory.new (after_access access.now q)
+            → Couples k self.new (P.device ports.new) _memory.new (after_access access.now q)
             (line_of (of_access access.now) q [] ∷ lines) }
 
         ensures fits { FitsDrive self.new (P.device ports.new) }
@@ -278,8 +279,9 @@ impl Mediator {
         ensures after { self.new ≡ with_client (next_sent (client_of self.old)) self.old }
         ensures left { due_tags (client_of self.new)
             ≡ drop 1 (due_tags (client_of self.old)) }
-        ensures kept { (d : Device) (memory : List ℕ) (q : Plain) (lines : List Line) →
-            Couples self.old d memory q lines → Couples self.new d memory q lines }
+        ensures kept { (k : Known) (d : Device) (memory : List ℕ) (q : Plain)
+            (lines : List Line) →
+            Couples k self.old d memory q lines → Couples k self.new d memory q lines }
         ensures fits { (d : Device) → FitsDrive self.old d → FitsDrive self.new d }
         ensures fit { IsFit self.old → IsFit self.new }
     {

@@ -1,3 +1,5 @@
+use Rattle.mediator.proofs.Coupled.{client_shown}
+use Rattle.mediator.proofs.Sectors.{client_sectors}
 use Rattle.mediator.proofs.Standing.{same_asks}
 use Rattle.mediator.proofs.mediator.Mediator.next_send.Goals as goal
 
@@ -12,3 +14,12 @@ returns-clause-fit c =
     let p = c.args.self.now.parts in
     let same = same_asks p _ _ c.next_send.ensures.after (c.asks_stay.ensures.sent p.client) in
     λ fit. c.same_asks_keep_the_fit.ensures.parts c.args.self.now.state _ _ same fit
+
+pub returns-clause-kept : goal.returns-clause-kept
+returns-clause-kept c = λ k d memory q lines couples.
+    let s = c.args.self.now.state in
+    let p = c.args.self.now.parts in record {
+      shows = client_shown s p c.next_send.new.self d memory q couples.shows;
+      sectors = client_sectors k s p c.next_send.new.self p.pool d q.device.cells couples.sectors;
+      told = couples.told;
+    }

@@ -1,14 +1,18 @@
-use Rattle.std.proofs.Common.{◌++◌, List, ap, ◌∙◌, subst}
+use Rattle.std.proofs.Common.{◌++◌, List, sym, ap, ◌∙◌, subst}
 use Rattle.std.proofs.lemmas.List.{append_assoc}
 use Rattle.aoe_client.specs.Asking.{due_tags}
 use Rattle.plain_run.specs.Entry.{commands_in}
+use Rattle.plain_run.specs.Plan.{planned}
 use Rattle.schedule_text.specs.declared.Item.{Item}
 use Rattle.streaming.specs.Lines.{of_turn}
 use Rattle.streaming.specs.Monitor.{asked_items, item_of}
 use Rattle.monitor_state.specs.Fits.{Fits}
 use Rattle.monitor_state.specs.GoesOn.{GoesOn}
+use Rattle.monitor_state.specs.Overlaid.{HasSectors}
+use Rattle.monitor_state.specs.Seen.{Shows}
 use Rattle.mediator.specs.declared.mediator.Mediator.{Mediator}
 use Rattle.mediator.proofs.Coupled.{along_kept, reached_told}
+use Rattle.mediator.proofs.Sectors.{turned_sectors}
 use Rattle.mediator.proofs.Standing.{left_as}
 use Rattle.mediator.proofs.Told.{told_commands}
 use Rattle.mediator.proofs.mediator.Mediator.turn.Goals as goal
@@ -35,11 +39,20 @@ returns-clause-kept g c =
     along_kept of_turn m n d e c.args.memory.now c.turned-state.new.memory told tags before
     c.push_asked.new.out.items.items
     (c.push_asked.ensures.items ∙ ap (λ (xs : List Item). xs ++ asked_items tags) c.push.ensures.items
-    ∙ append_assoc before (item_of told) (asked_items tags))
+    ∙ append_assoc before (item_of told) (asked_items tags)) (g.met.P.Ports.lawful c.args.ports.now) c.requires.fits
     (left_as (λ t r. GoesOn m.state m.parts d c.args.memory.now (item_of told) t r e c.turned-state.new.memory)
     _ _ _ _ _ c.replace.ensures.after meanwhile c.end.ensures.given
     (subst (λ t. GoesOn t m.parts d c.args.memory.now (item_of told) c.turned-state.result.0 c.turned-state.new.parts e
     c.turned-state.new.memory) c.replace-state.ensures.value c.turned-state.ensures.shown))
+    (λ k q shows has.
+    left_as (λ t r. HasSectors k t r e (planned (item_of told) q).device.cells) _ _ _ _ _ c.replace.ensures.after
+    meanwhile
+    c.end.ensures.given
+    (turned_sectors k c.replace-state.result c.turned-state.result.0 m.parts c.turned-state.new.parts d e
+    c.args.memory.now told q c.turned-state.ensures.image c.turned-state.ensures.reached c.turned-state.ensures.opening
+    c.turned-state.ensures.plan c.turned-state.ensures.steps
+    (subst (λ t. Shows t m.parts d c.args.memory.now q) (sym c.replace-state.ensures.value) shows)
+    (subst (λ t. HasSectors k t m.parts d q.device.cells) (sym c.replace-state.ensures.value) has)))
     (λ q lines given same.
     reached_told of_turn q given d e lines c.turned-state.ensures.reached
     (ap commands_in same ∙ told_commands told tags ∙ c.turned-state.ensures.commands))
