@@ -310,6 +310,72 @@ fn an_opening_whose_command_fails(rt: HostRuntime) -> Result<(), Fail> {
     check_deployed(&rt, rt.alloc(), &schedule, &report)
 }
 
+// While the dummy read flies the guest sees its command at work: a Command write is ignored, the line is low, and a
+// turn does nothing.
+#[test]
+fn accesses_and_a_turn_beside_a_dummy_read(rt: HostRuntime) -> Result<(), Fail> {
+    let schedule = [
+        OPEN,
+        READ_3,
+        Text(b"t\n"),
+        FETCH,
+        Text(b"t\ng r8 al\ng line\nt\ng w8 st e7\ng r8 bs\nd ok\n"),
+        Text(b"g r8 al\ng line\ng r8 st\ng rd 256\ng r8 al\nend\n"),
+    ];
+    let report = [
+        OPENED,
+        ASKED_AT_28,
+        Text(b"37 c 20 15 1\n38 o 80\n39 o 00\n42 o 00\n43 p go 1\n"),
+        Text(b"44 o 58\n45 o 01\n46 o 58\n47 o "),
+        Many(b"13", 512),
+        Text(b"\n48 o 50\nend 49\n"),
+    ];
+    check_deployed(&rt, rt.alloc(), &schedule, &report)
+}
+
+// A turn at which the drive is at work does nothing: in the drive's own reset, at BSY of an own command that reads,
+// writes or flushes, and at BSY and at DRQ of a command of the guest's.
+#[test]
+fn turns_while_the_drive_is_at_work(rt: HostRuntime) -> Result<(), Fail> {
+    let schedule = [
+        Text(b"t\nd ok\nt\nt\nd ok\nt\nt\nt\nd ok\nt\nt\nd ok\nt\nt\nt\nd ok\nt\n"),
+        Text(b"t\nd ok\nt\nd ok\nt\nt\nd ok\nt\nt\n"),
+        Text(b"g w8 sc 01\ng w8 ll 09\ng w8 lm 00\ng w8 lh 00\ng w8 dv e0\ng w8 st 20\n"),
+        Text(b"t\nt\nd ok\nt\ng r8 st\ng rd 256\ng r8 al\nend\n"),
+    ];
+    let report = [
+        Text(b"3 c 20 13 1\n7 c 30 14 1\n14 c e7 0 0\n18 c 30 13 1\n23 c e7 0 0\n"),
+        Text(b"25 m ready\n26 p go 1\n33 c 20 9 1\n35 p go 1\n37 o 58\n38 o "),
+        Many(b"ee", 512),
+        Text(b"\n39 o 50\nend 40\n"),
+    ];
+    check_deployed(&rt, rt.alloc(), &schedule, &report)
+}
+
+// WRITE SECTOR(S) of sector 3, whose block is empty, and READ SECTOR(S) of sector 13, where the header stands, are
+// marked and end with IDNF; a flush behind them is the drive's. WRITE SECTOR(S) of sector 13 finds the drive on the
+// guest's side.
+#[test]
+fn commands_that_are_refused(rt: HostRuntime) -> Result<(), Fail> {
+    let schedule = [
+        OPEN,
+        Text(b"g w8 sc 01\ng w8 ll 03\ng w8 lm 00\ng w8 lh 00\ng w8 dv e0\ng w8 st 30\n"),
+        Text(b"g r8 al\nt\nd ok\ng line\ng r8 st\ng r8 er\n"),
+        Text(b"g w8 sc 01\ng w8 ll 0d\ng w8 lm 00\ng w8 lh 00\ng w8 dv e0\ng w8 st 20\n"),
+        Text(b"t\nd ok\ng r8 st\ng r8 er\ng w8 st e7\nt\nd ok\ng r8 st\n"),
+        Text(b"g w8 sc 01\ng w8 ll 0d\ng w8 lm 00\ng w8 lh 00\ng w8 dv e0\ng w8 st 30\n"),
+        Text(b"t\nd ok\ng r8 st\ng r8 er\nend\n"),
+    ];
+    let report = [
+        OPENED,
+        Text(b"27 m reserved\n28 o 80\n29 c 20 15 1\n30 p go 1\n31 o 01\n32 o 51\n33 o 10\n"),
+        Text(b"39 m reserved\n40 c 20 15 1\n41 p go 1\n42 o 51\n43 o 10\n"),
+        Text(b"45 c e7 0 0\n46 p go 1\n47 o 50\n"),
+        Text(b"53 m reserved\n54 c 20 15 1\n55 p go 1\n56 o 51\n57 o 10\nend 58\n"),
+    ];
+    check_deployed(&rt, rt.alloc(), &schedule, &report)
+}
+
 // A stray request with tag 1 and sector 4, which no client sends. The server's reply to it is honest, and isn't the
 // sectors of its tag, so the client doesn't take it.
 #[test]
