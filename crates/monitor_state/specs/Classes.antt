@@ -28,7 +28,7 @@ is_refused_class Other = false
 abbrev pub is_refused : Taken → Parts → Bool
 is_refused order p = is_refused_class (class_of_order order p)
 
--- the classes whose commands the drive gets (own)
+-- the classes whose commands the drive gets; a flush too, as long as no block is filled that isn't stored (own)
 abbrev pub is_drives_class : Class → Bool
 is_drives_class Local = true
 is_drives_class Redirected = false

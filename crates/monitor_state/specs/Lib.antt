@@ -14,3 +14,4 @@ pub mod Seen
 pub mod Sectors
 pub mod GoesOn
 pub mod Overlaid
+pub mod Buffered

@@ -20,7 +20,8 @@ use Rattle.monitor_state.specs.declared.state.Purpose.TheVariants as purpose
 use Rattle.monitor_state.specs.declared.parts.Parts.{Parts}
 use Rattle.monitor_state.specs.State.{is_opened}
 
--- the sectors of the image, those of the disk at power-on, and the blocks whose data is durable on the drive
+-- the sectors of the image, those of the disk at power-on, and the blocks whose bit a cut may leave: the guest may find
+-- the drive's values there
 pub record Known : Type 0 where
   pub image : List (List ℕ)
   pub disk : List (List ℕ)

@@ -68,7 +68,8 @@ refuses (Running side own why) p = is_refused_in (view_held side).file.phase p
 refuses (Raising side dummy planned) p = is_refused_in (view_held side).file.phase p
 refuses Moving p = false
 
--- a plain drive is the one that the guest sees, its sectors apart, of whose commands the monitor refuses none (own)
+-- a plain drive is the one that the guest sees, its sectors apart, and the monitor refuses none that it has in hand of
+-- its commands (own)
 pub record Shows (s : State) (p : Parts) (d : Device) (memory : List ℕ) (q : Plain) : Type 0 where
   -- its registers are, but for the byte of the last command, which none shows
   pub file : without_command q.device.file ≡ without_command (file_seen s d)
