@@ -5,3 +5,4 @@ pub mod Beside
 pub mod Viewed
 pub mod Seen
 pub mod Opening
+pub mod Buffers

@@ -39,7 +39,7 @@ work_same : (d e : Device) → LeavesWork d e
 work_same d e left = left.others ∙ ap (λ f. record d { file = f; bus = e.bus }) left.file
 
 -- an own command has made as much of the sectors as before
-still_done : (job : OwnJob) (done : ℕ) (bytes start : List ℕ) (origin : List Cell) (d e : Device) → LeavesWork d e
+pub still_done : (job : OwnJob) (done : ℕ) (bytes start : List ℕ) (origin : List Cell) (d e : Device) → LeavesWork d e
     → IsDoneSoFar job done bytes start origin d → IsDoneSoFar job done bytes start origin e
 still_done job done bytes start origin d e left is =
     subst (IsDoneSoFar job done bytes start origin) (sym (work_same d e left)) record {

@@ -9,10 +9,11 @@ ghost use Rattle.port_lease.specs.Free.{shows_rest as rests};
 ghost use Rattle.port_lease.specs.View.{is_command};
 ghost use Rattle.guest_view.specs.View.{is_reset};
 ghost use Rattle.monitor_state.specs.Fits.{Fits, IsBetweenEvents};
+ghost use Rattle.monitor_state.specs.Buffered.{KeepsBuffers};
 ghost use Rattle.monitor_state.specs.Overlaid.{OpeningGoesOn};
 ghost use Rattle.monitor_state.specs.Seen.{Shows};
 ghost use Rattle.monitor_access.specs.Marks.{mark_due, mark_over, TakesNone};
-ghost use Rattle.monitor_access.specs.Parts.{parts_after, KeepsOthers};
+ghost use Rattle.monitor_access.specs.Parts.{parts_after, GoesOnHolding, KeepsOthers};
 ghost use Rattle.monitor_access.specs.Seen.{IsAnswered, IsShown};
 
 use crate::by_view::by_view;
@@ -60,6 +61,10 @@ pub fn accessed<P: Ports>(
     // While opening hasn't ended the sectors of every such plain drive stay so.
     ensures opening { OpeningGoesOn state parts.old (P.device ports.old)
         result.0 parts.new (P.device ports.new) }
+
+    // The buffers go on to hold what the plain drive has there.
+    ensures buffers { KeepsBuffers state parts.old (P.device ports.old)
+        result.0 parts.new (P.device ports.new) }
     ensures commands { TakesNone (P.device ports.old).file (P.device ports.new).file }
     ensures parts { parts.new ≡ parts_after result.0 parts.old }
     ensures others { KeepsOthers parts.old parts.new }
@@ -93,6 +98,8 @@ fn guest<P: Ports>(
         access.now result.2 result.0 parts.new (P.device ports.new) }
     ensures mark { result.2
         ≡ mark_due (State.Guest side) parts.old (P.device ports.old) access.now }
+    ensures buffers { GoesOnHolding (State.Guest side) parts.old (P.device ports.old)
+        result.0 parts.new (P.device ports.new) }
     ensures commands { TakesNone (P.device ports.old).file (P.device ports.new).file }
     ensures parts { parts.new ≡ parts_after result.0 parts.old }
     ensures others { KeepsOthers parts.old parts.new }
@@ -124,6 +131,8 @@ fn guest_other<P: Ports>(
         access.now result.2 result.0 parts.new (P.device ports.new) }
     ensures mark { result.2
         ≡ mark_due (State.Guest side) parts.old (P.device ports.old) access.now }
+    ensures buffers { GoesOnHolding (State.Guest side) parts.old (P.device ports.old)
+        result.0 parts.new (P.device ports.new) }
     ensures commands { TakesNone (P.device ports.old).file (P.device ports.new).file }
     ensures parts { parts.new ≡ parts_after result.0 parts.old }
     ensures others { KeepsOthers parts.old parts.new }
@@ -153,6 +162,8 @@ fn guest_command<P: Ports>(
         access.now result.2 result.0 parts.new (P.device ports.new) }
     ensures mark { result.2
         ≡ mark_due (State.Guest side) parts.old (P.device ports.old) access.now }
+    ensures buffers { GoesOnHolding (State.Guest side) parts.old (P.device ports.old)
+        result.0 parts.new (P.device ports.new) }
     ensures commands { TakesNone (P.device ports.old).file (P.device ports.new).file }
     ensures parts { parts.new ≡ parts_after result.0 parts.old }
     ensures others { KeepsOthers parts.old parts.new }
@@ -185,6 +196,8 @@ fn taken_for<P: Ports>(
         access.now result.2 result.0 parts.new (P.device ports.new) }
     ensures mark { result.2
         ≡ mark_due (State.Guest side) parts.old (P.device ports.old) access.now }
+    ensures buffers { GoesOnHolding (State.Guest side) parts.old (P.device ports.old)
+        result.0 parts.new (P.device ports.new) }
     ensures commands { TakesNone (P.device ports.old).file (P.device ports.new).file }
     ensures parts { parts.new ≡ parts_after result.0 parts.old }
     ensures others { KeepsOthers parts.old parts.new }
@@ -217,6 +230,8 @@ fn resting<P: Ports>(
     ensures mark { result.2
         ≡ mark_due (State.Monitor side) parts.old (P.device ports.old) access.now }
     ensures opening { OpeningGoesOn (State.Monitor side) parts.old (P.device ports.old)
+        result.0 parts.new (P.device ports.new) }
+    ensures buffers { GoesOnHolding (State.Monitor side) parts.old (P.device ports.old)
         result.0 parts.new (P.device ports.new) }
     ensures commands { TakesNone (P.device ports.old).file (P.device ports.new).file }
     ensures parts { parts.new ≡ parts_after result.0 parts.old }
@@ -254,6 +269,8 @@ fn running<P: Ports>(
         ≡ mark_due (State.Running side own purpose) parts.old (P.device ports.old) access.now }
     ensures opening { OpeningGoesOn (State.Running side own purpose) parts.old (P.device ports.old)
         result.0 parts.new (P.device ports.new) }
+    ensures buffers { GoesOnHolding (State.Running side own purpose) parts.old (P.device ports.old)
+        result.0 parts.new (P.device ports.new) }
     ensures commands { TakesNone (P.device ports.old).file (P.device ports.new).file }
     ensures parts { parts.new ≡ parts_after result.0 parts.old }
     ensures others { KeepsOthers parts.old parts.new }
@@ -289,6 +306,8 @@ fn raising<P: Ports>(
         access.now result.2 result.0 parts.new (P.device ports.new) }
     ensures mark { result.2
         ≡ mark_due (State.Raising side dummy plan) parts.old (P.device ports.old) access.now }
+    ensures buffers { GoesOnHolding (State.Raising side dummy plan) parts.old (P.device ports.old)
+        result.0 parts.new (P.device ports.new) }
     ensures commands { TakesNone (P.device ports.old).file (P.device ports.new).file }
     ensures parts { parts.new ≡ parts_after result.0 parts.old }
     ensures others { KeepsOthers parts.old parts.new }

@@ -4,3 +4,5 @@ pub mod Raised
 pub mod Unseen
 pub mod GuestsSteps
 pub mod Frames
+pub mod Buffers
+pub mod BuffersStepped

@@ -6,11 +6,13 @@ ghost use Rattle.ata_taskfile.specs.Device.{Device};
 ghost use Rattle.mon_pool.specs.Region.{AreOf};
 ghost use Rattle.plain_drive.specs.Plain.{Plain};
 ghost use Rattle.aoe_client.specs.Asking.{leases_of};
+ghost use Rattle.aoe_client.specs.Messages.{sectors_carried};
 ghost use Rattle.monitor_state.specs.declared.state.State.{State as StateOf};
+ghost use Rattle.monitor_state.specs.Buffered.{HasBuffers, image_part};
 ghost use Rattle.monitor_state.specs.Fits.{Fits, FitsParts};
 ghost use Rattle.monitor_state.specs.SameAsks.{HaveSameAsks};
 ghost use Rattle.monitor_state.specs.Seen.{Shows};
-ghost use Rattle.streaming.specs.Client.{TakesFrame};
+ghost use Rattle.streaming.specs.Client.{TakesFor, TakesFrame};
 ghost use Rattle.monitor_events.specs.Hearing.{IsHeard, mark_of};
 
 use aoe_client::Heard;
@@ -37,6 +39,14 @@ pub fn heard(parts: &mut Parts, frame: &Frame, injected: bool) -> Option<Item>
     // What the guest sees stays: the buffer of the held piece is none that is asked for.
     ensures shown { (s : StateOf) (d : Device) (memory : List ℕ) (q : Plain) →
         FitsParts s parts.old → Shows s parts.old d memory q → Shows s parts.new d memory q }
+
+    // Where the frame has the image's sectors for the tag that it is taken for, the buffers go on to hold what they
+    // should.
+    ensures buffers { (image : List (List ℕ)) (s : StateOf) (d g : Device) →
+        FitsParts s parts.old
+        → ((tag : ℕ) → TakesFor tag frame.now parts.old.client
+        → image_part image tag ≡ sectors_carried frame.now)
+        → HasBuffers image s parts.old d g → HasBuffers image s parts.new d g }
 {
     asks_stay();
     same_asks_keep_the_fit();

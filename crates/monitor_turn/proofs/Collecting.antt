@@ -11,8 +11,10 @@ use Rattle.ata_taskfile.specs.declared.Phase.TheVariants.{Busy}
 use Rattle.ata_taskfile.specs.Device.{Device}
 use Rattle.aoe_client.specs.Asking.{done_in, lease_in, leases_of}
 use Rattle.aoe_client.specs.Fetching.{Fetching, is_answered}
+use Rattle.fill_bitmap.specs.declared.area.Area.{Area}
 use Rattle.fill_bitmap.specs.Area.{block_at}
 use Rattle.fill_bitmap.specs.Disk.{is_empty_at}
+use Rattle.io_interpret.specs.Blocks.{empty_block}
 use Rattle.io_interpret.proofs.Ranges.{some_sectors}
 use Rattle.mon_pool.specs.Region.{Held}
 use Rattle.plain_drive.specs.Plain.{Plain}
@@ -36,20 +38,22 @@ use Rattle.monitor_turn.specs.Collected.{collected, holding, piece_of}
 use Rattle.monitor_turn.specs.Turned.{HasTurned}
 use Rattle.monitor_turn.proofs.InHand.{in_hand_by, order_by, read_unmattered, redirected_by}
 
-came_if : (all : Bool) (f : Fetching) (came : ℕ × Held) → (if all then Some (f.block, f.lease) else None) ≡ Some came
-    → came ≡ (f.block, f.lease)
-came_if true f came is = cc
-came_if false f came is = absurd cc
+some_if : {A : Type 0} (test : Bool) (x y : A) → (if test then Some x else None) ≡ Some y → (y ≡ x) × (test ≡ true)
+some_if true x y is = (cc, refl)
+some_if false x y is = absurd cc
 
--- what has come was asked
-came_of : (demand : Option Fetching) (came : ℕ × Held) → done_in demand ≡ Some came
-    → (f : Fetching) × (demand ≡ Some f) × (came ≡ (f.block, f.lease))
+-- what has come was asked, and all of it is answered
+pub came_of : (demand : Option Fetching) (came : ℕ × Held) → done_in demand ≡ Some came
+    → (f : Fetching) × (demand ≡ Some f) × (came ≡ (f.block, f.lease)) × (list_all is_answered f.tags ≡ true)
 came_of None came is = absurd cc
-came_of (Some f) came is = (f, refl, came_if (list_all is_answered f.tags) f came is)
+came_of (Some f) came is =
+    let made = some_if (list_all is_answered f.tags) (f.block, f.lease) came is in
+    (f, refl, made.0, made.1)
 
-block_if : (empty : Bool) (here b : ℕ) → (if empty then Some here else None) ≡ Some b → b ≡ here
-block_if true here b is = cc
-block_if false here b is = absurd cc
+-- the block of a sector in an empty one
+pub block_if : (area : Area) (filled : List Bool) (sector b : ℕ) → empty_block area filled sector ≡ Some b
+    → (b ≡ block_at area sector) × (is_empty_at area filled sector ≡ true)
+block_if area filled sector b is = some_if (is_empty_at area filled sector) (block_at area sector) b is
 
 -- parts that hold the block of what was asked
 abbrev holding_block : ℕ → ℕ → Fetching → Parts → Parts
@@ -69,15 +73,20 @@ area_holding sector end f p area = record {
   background = area.background;
 }
 
+-- the lease of what was asked is the first one of the parts
+pub asked_leased : (f : Fetching) (p : Parts) → p.held ≡ None → p.client.demand ≡ Some f
+    → AreLeased (leases_of_parts p) p → AreLeased (f.lease ∷ lease_in p.client.background) p
+asked_leased f p unheld is leased =
+    let same : leases_of_parts p ≡ f.lease ∷ lease_in p.client.background =
+    ap (λ (held : Option HeldPiece). leases_held held ++ leases_of p.client) unheld
+    ∙ ap (λ (o : Option Fetching). lease_in o ++ lease_in p.client.background) is in
+    subst (λ (leases : List Held). AreLeased leases p) same leased
+
 leases_holding : (sector end : ℕ) (f : Fetching) (p : Parts) → p.held ≡ None → p.client.demand ≡ Some f
     → AreLeased (leases_of_parts p) p
     → AreLeased (leases_of_parts (holding_block sector end f p)) (holding_block sector end f p)
 leases_holding sector end f p unheld is leased =
-    let same : leases_of_parts p ≡ f.lease ∷ lease_in p.client.background =
-    ap (λ (held : Option HeldPiece). leases_held held ++ leases_of p.client) unheld
-    ∙ ap (λ (o : Option Fetching). lease_in o ++ lease_in p.client.background) is in
-    let all = subst (λ (leases : List Held). AreLeased leases p) same leased in
-    record { held = all.held; counted = all.counted }
+    let all = asked_leased f p unheld is leased in record { held = all.held; counted = all.counted }
 
 -- the first piece from a sector on has it, and lies in its block
 in_block : (sector end block room first : ℕ) → 0 < block → sector < end → first ≡ sector / block
@@ -95,10 +104,21 @@ holds_block : (request : Request) (sector : ℕ) (f : Fetching) (p : Parts) → 
     → HoldsSector (holding_block sector (end_of_read request) f p) request sector
     (piece_of sector (end_of_read request) p (f.block, f.lease))
 holds_block request sector f p area wanted =
-    let is = block_if (is_empty_at p.area p.bitmap.filled sector) (block_at p.area sector) f.block wanted.block in
+    let is = (block_if p.area p.bitmap.filled sector f.block wanted.block).0 in
     let holds = in_block sector (end_of_read request) p.area.block p.pool.room f.block
     (some_sectors p.area.block area.suitable.blocked) wanted.within is area.room in
     record { from = omega arith; ahead = holds.0; within = holds.1; base = holds.2; room = holds.3 }
+
+-- so the piece of a block that has come has the sector that comes next
+pub holds_came : (request : Request) (sector : ℕ) (f : Fetching) (came : ℕ × Held) (p : Parts) → FitsArea p
+    → IsWanted p request sector f → came ≡ (f.block, f.lease)
+    → let end = end_of_read request in
+    HoldsSector (holding (Some came) sector end p) request sector (piece_of sector end p came)
+holds_came request sector f came p area wanted is =
+    let end = end_of_read request in
+    subst
+    (λ (came : ℕ × Held). HoldsSector (holding (Some came) sector end p) request sector (piece_of sector end p came))
+    (sym is) (holds_block request sector f p area wanted)
 
 block_fits : (side : MonitorSide) (redirect : Redirect) (done : ℕ) (f : Fetching) (p : Parts) (d : Device)
     → Fits (Monitor side) p d → (view_held side).file.phase ≡ Busy (Good (request_of redirect)) done
@@ -191,7 +211,7 @@ client_before (Some came) sector end p q is turned unasked =
     inr (inr (record { done = ap is_some is; freed = unasked refl }))
 
 -- the piece that is held lies in the block that has come
-piece_in_block : (g : Device) (sector end : ℕ) (came : ℕ × Held) (p : Parts) (request : Request) → FitsArea p
+pub piece_in_block : (g : Device) (sector end : ℕ) (came : ℕ × Held) (p : Parts) (request : Request) → FitsArea p
     → HoldsSector (holding (Some came) sector end p) request sector (piece_of sector end p came)
     → IsBlockOf g p.pool p.client.block (Some came) → IsPieceOf g p.pool (Some (piece_of sector end p came))
 piece_in_block g sector end came p request area holds block = λ s from before.
@@ -218,9 +238,7 @@ some_seen side redirect done (Some came) p d memory q fits at redirected is show
     let of = came_of p.client.demand came is in
     let wanted : IsWanted p request s of.0 =
     subst (λ (o : Option Fetching). IfSome o (IsWanted p request s)) of.1 hand.asked in
-    let holds : HoldsSector r request s (piece_of s end p came) =
-    subst (λ (came : ℕ × Held). HoldsSector (holding (Some came) s end p) request s (piece_of s end p came))
-    (sym of.2) (holds_block request s of.0 p fits.parts.area wanted) in (
+    let holds = holds_came request s of.0 came p fits.parts.area wanted of.2 in (
       same_seen (Monitor side) (Monitor side) p r d d memory q refl refl
           (λ matters. absurd (let no = read_unmattered v.file.phase request done at hand.read in cc)) refl
           (same_refused v.file.phase p r refl refl ∙ shows.served) shows,

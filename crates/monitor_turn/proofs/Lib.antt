@@ -12,7 +12,10 @@ pub mod Polls
 pub mod OpeningPolled
 pub mod Asked
 pub mod Collecting
+pub mod CameBlock
+pub mod Buffers
 pub mod Taken
 pub mod OpeningLeft
 pub mod OpeningSectors
 pub mod OpeningEnds
+pub mod PieceBuffer

@@ -228,7 +228,7 @@ ended_sectors k s after p q d e sector plain being opens is area id fits =
     }
 
 -- a poll at which the command goes on leaves what was done so far
-still_so_far : (result : Poll) (job : OwnJob) (left : ℕ) (bytes start : List ℕ) (origin : List Cell) (e : Device)
+pub still_so_far : (result : Poll) (job : OwnJob) (left : ℕ) (bytes start : List ℕ) (origin : List Cell) (e : Device)
     → (result ≡ Waiting) ⊎ (result ≡ Moved) → Leaves result job left bytes start origin e
     → IsDoneSoFar job (done_by job (left_after result left)) bytes start origin e
 still_so_far Waiting job left bytes start origin e goes leaves = leaves

@@ -5,7 +5,7 @@ use Rattle.std.proofs.lemmas.List.{length-set}
 use Rattle.ata_taskfile.specs.declared.Taken.{Taken}
 use Rattle.ata_taskfile.specs.declared.Phase.{Phase}
 use Rattle.ata_taskfile.specs.declared.Phase.TheVariants.{Reset, Idle, Busy, Ready}
-use Rattle.ata_taskfile.specs.Lawful.{is_in_reset, is_just_taken}
+use Rattle.ata_taskfile.specs.Lawful.{is_in_reset, is_just_taken, position_of}
 use Rattle.ata_taskfile.specs.Device.{Device}
 use Rattle.aoe_client.specs.Asking.{leases_of}
 use Rattle.mon_pool.specs.Region.{Held, Region, buffers_in, given}
@@ -76,19 +76,13 @@ read_over (Busy order done) own after first count v pool p job room reads =
     reads_over own after first count v pool p done job room reads
 read_over (Ready order done left) own after first count v pool p job room reads = absurd reads
 
-opened_in : (phase : Phase) (own : Own) (first count : ℕ) (v : View) (p : Parts) → ReadsIn phase own first count v p
-    → is_opened p ≡ true
-opened_in Reset own first count v p reads = absurd reads
-opened_in Idle own first count v p reads = absurd reads
-opened_in (Busy order done) own first count v p reads = reads.opened
-opened_in (Ready order done left) own first count v p reads = absurd reads
-
-calm_in : (phase : Phase) (own : Own) (first count : ℕ) (v : View) (p : Parts) → ReadsIn phase own first count v p
-    → v.file.pending ≡ false
-calm_in Reset own first count v p reads = absurd reads
-calm_in Idle own first count v p reads = absurd reads
-calm_in (Busy order done) own first count v p reads = reads.calm
-calm_in (Ready order done left) own first count v p reads = absurd reads
+-- what the read of a piece rests on while it stands
+pub reads_in : (phase : Phase) (own : Own) (first count : ℕ) (v : View) (p : Parts) → ReadsIn phase own first count v p
+    → ReadsPiece own first count v p (position_of phase)
+reads_in Reset own first count v p reads = absurd reads
+reads_in Idle own first count v p reads = absurd reads
+reads_in (Busy order done) own first count v p reads = reads
+reads_in (Ready order done left) own first count v p reads = absurd reads
 
 -- the read goes on
 pub piece_goes : (side after : MonitorSide) (own left : Own) (first count : ℕ) (lease : Held) (pool : Region)
@@ -225,13 +219,6 @@ hand_failed (Busy order done) own first count v p reads has =
     works_failed p.hand.redirect own first count v p order done reads.redirected reads has
 hand_failed (Ready order done left) own first count v p reads has = absurd reads
 
-unheld_in : (phase : Phase) (own : Own) (first count : ℕ) (v : View) (p : Parts) → ReadsIn phase own first count v p
-    → p.held ≡ None
-unheld_in Reset own first count v p reads = absurd reads
-unheld_in Idle own first count v p reads = absurd reads
-unheld_in (Busy order done) own first count v p reads = reads.unheld
-unheld_in (Ready order done left) own first count v p reads = absurd reads
-
 area_held : (held : HeldPiece) (p : Parts) → FitsArea p → FitsArea (with_piece held p)
 area_held held p area = record {
   suitable = area.suitable;
@@ -280,23 +267,22 @@ piece_done side after own first count lease pool p d e fits room buffers leases 
     let v = view_held side in
     let over = with_pool pool p in
     let reads = read_over v.file.phase own own first count v pool p refl room state.5 in
-    let opened = opened_in v.file.phase own first count v p state.5 in
-    let calm = calm_in v.file.phase own first count v p state.5 in
+    let stands = reads_in v.file.phase own first count v p state.5 in
     record {
       fits = record {
         parts = record {
           area = area_held (piece_read first count lease) over (area_over pool p room buffers fits.parts.area);
-          leased = held_leased p.held lease first count over refl (unheld_in v.file.phase own first count v p state.5)
+          leased = held_leased p.held lease first count over refl stands.unheld
               (leases fits.parts.leased);
           state = rw view (
             alone,
             state.1,
             hand_held v.file.phase own first count lease v over reads
                 (hand_over v.file.phase own first count v pool p state.5 state.2),
-            record { opened = λ closed. absurd (let yes = opened in cc) },
+            record { opened = λ closed. absurd (let yes = stands.opened in cc) },
           );
         };
-        device = free_fits after (with_piece (piece_read first count lease) over) e free (rw view calm);
+        device = free_fits after (with_piece (piece_read first count lease) over) e free (rw view stands.calm);
         sectors = sectors ∙ fits.sectors;
       };
       between = _;
@@ -319,8 +305,7 @@ piece_failed side after own first count lease pool p d e fits room buffers lease
     let less = given lease pool in
     let over = with_pool less p in
     let reads = read_over v.file.phase own own first count v less p refl room state.5 in
-    let opened = opened_in v.file.phase own first count v p state.5 in
-    let calm = calm_in v.file.phase own first count v p state.5 in
+    let stands = reads_in v.file.phase own first count v p state.5 in
     let many : buffers_in less ≡ buffers_in p.pool = length-set pool.free lease.buffer true ∙ buffers in
     let leased = leases fits.parts.leased in
     record {
@@ -336,10 +321,10 @@ piece_failed side after own first count lease pool p d e fits room buffers lease
             state.1,
             hand_failed v.file.phase own first count v over reads
                 (hand_over v.file.phase own first count v less p state.5 state.2),
-            record { opened = λ closed. absurd (let yes = opened in cc) },
+            record { opened = λ closed. absurd (let yes = stands.opened in cc) },
           );
         };
-        device = free_fits after (with_failure over) e free (rw view calm);
+        device = free_fits after (with_failure over) e free (rw view stands.calm);
         sectors = sectors ∙ fits.sectors;
       };
       between = _;

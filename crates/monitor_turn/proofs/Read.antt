@@ -102,7 +102,7 @@ some_and : {T : Type 0} (P : T → Type 0) (o : Option T) (x : T) → o ≡ Some
 some_and P o x is holds = subst (λ o. IsSomeAnd o P) (sym is) holds
 
 -- what an own read of a piece rests on
-pub reads_piece : (own : Own) (first count : ℕ) (v : View) (p : Parts) (redirect : Redirect) (done : ℕ)
+reads_piece : (own : Own) (first count : ℕ) (v : View) (p : Parts) (redirect : Redirect) (done : ℕ)
     → FitsArea p → is_opened p ≡ true → job_of own ≡ job.Read first count → p.hand.redirect ≡ Some redirect
     → p.hand.failed ≡ false → p.held ≡ None → p.client.demand ≡ None
     → v.file.phase ≡ Busy (Good (request_of redirect)) done
@@ -140,6 +140,28 @@ read_on_disk side redirect first count p d fits works reads =
     rw fits.sectors
     (readable_on_disk (end_of_read (request_of redirect)) first count p.area.sectors reads.within inside)
 
+-- of a read that is worked on nothing is held and nothing asked where a piece may be read
+pub piece_due : (side : MonitorSide) (own : Own) (first count : ℕ) (redirect : Redirect) (p : Parts) (d : Device)
+    → Fits (Monitor side) p d → is_opened p ≡ true
+    → IsWorkedOn (view_held side) p redirect (position_of (view_held side).file.phase)
+    → IsReadable (request_of redirect) (view_held side) p.area p.bitmap.filled (range_of p.held) first count
+    → job_of own ≡ job.Read first count
+    → ReadsPiece own first count (view_held side) p (position_of (view_held side).file.phase)
+piece_due side own first count redirect p d fits opened works reads job_is =
+    let v = view_held side in
+    let done = position_of v.file.phase in
+    let request = request_of redirect in
+    let sector = request.first + done in
+    let r : IsRedirected v p request done =
+    redirected_by v p redirect request done works.phase works.redirect_is fits.parts.state.2 in
+    let here : first ≡ sector = grind (arith, reads.from, works.phase) in
+    let filled : is_empty_at p.area p.bitmap.filled sector ≡ false =
+    reads.on_disk sector (omega (arith, here)) (omega (arith, here, (reads.fit.named refl).some)) in
+    let unheld = none_held p request sector p.held r.held (grind (arith, reads.unheld, works.phase)) in
+    let unasked = none_asked p request sector p.client.demand r.asked filled in
+    reads_piece own first count v p redirect done fits.parts.area opened job_is works.redirect_is works.unfailed unheld
+    unasked works.phase reads
+
 -- an own read of a piece has begun
 pub piece_begun : (side after : MonitorSide) (own : Own) (lease : Held) (first count : ℕ) (told : Item) (pool : Region)
     (redirect : Redirect) (p : Parts) (d e : Device) → Fits (Monitor side) p d → is_opened p ≡ true
@@ -162,14 +184,9 @@ piece_begun side after own lease first count told pool redirect p d e fits opene
     let q = with_pool pool p in
     let done = position_of v.file.phase in
     let request = request_of redirect in
-    let sector = request.first + done in
     let r : IsRedirected v p request done =
     redirected_by v p redirect request done works.phase works.redirect_is state.2 in
-    let here : first ≡ sector = grind (arith, reads.from, works.phase) in
-    let filled : is_empty_at p.area p.bitmap.filled sector ≡ false =
-    reads.on_disk sector (omega (arith, here)) (omega (arith, here, (reads.fit.named refl).some)) in
-    let unheld = none_held p request sector p.held r.held (grind (arith, reads.unheld, works.phase)) in
-    let unasked = none_asked p request sector p.client.demand r.asked filled in
+    let due = piece_due side own first count redirect p d fits opened works reads job_is in
     let free = opened_free side p d fits.device opened reads.quiet in
     let none : done_of own ≡ 0 = grind (arith, job_is, left) in
     let on_disk = read_on_disk side redirect first count p d fits works reads in
@@ -183,12 +200,12 @@ piece_begun side after own lease first count told pool redirect p d e fits opene
             own_stands,
             state.1,
             in_hand_by v q redirect done works.phase works.redirect_is
-                (redirected_over pool v p redirect done unheld unasked r),
+                (redirected_over pool v p redirect done due.unheld due.unasked r),
             subst IsFit (sym job_is) reads.fit,
             omega (arith, left, (reads.fit.named refl).some),
             subst (λ phase. ReadsIn phase own first count v q) (sym works.phase)
                 (reads_piece own first count v q redirect done (area_over pool p room buffers area) opened job_is
-                works.redirect_is works.unfailed unheld unasked works.phase reads),
+                works.redirect_is works.unfailed due.unheld due.unasked works.phase reads),
           );
         };
         device = subst (λ n. IsRunning (job_of own) n e) (sym none)

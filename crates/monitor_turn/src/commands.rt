@@ -11,6 +11,7 @@ ghost use Rattle.port_lease.specs.Handover.{IsOrdered};
 ghost use Rattle.port_lease.specs.Sides.{has_own, view_held};
 ghost use Rattle.port_lease.specs.View.{IsLawfulView};
 ghost use Rattle.overlay.specs.Steps.{leaves_sectors};
+ghost use Rattle.monitor_state.specs.Buffered.{KeepsBuffers};
 ghost use Rattle.monitor_state.specs.State.{is_opened};
 ghost use Rattle.monitor_state.specs.Classes.{class_of_order, is_drives_class};
 ghost use Rattle.monitor_state.specs.Fits.{Fits, FitsPlan};
@@ -50,6 +51,8 @@ pub(crate) fn command<P: Ports>(
         → leaves_sectors (view_held side).file.phase ≡ true }
     ensures client { ClientTurned parts.old.client parts.new.client }
     ensures memory { length memory.new ≡ length memory.old }
+    ensures buffers { KeepsBuffers (State.Monitor side) parts.old (P.device ports.old)
+        result.0 parts.new (P.device ports.new) }
     ensures rest { P.rest ports.new ≡ P.rest ports.old }
     ensures reached { (origin : Device) → Reaches origin (P.device ports.old)
         → Reaches origin (P.device ports.new) }
@@ -86,6 +89,8 @@ fn by_class<P: Ports>(
         → leaves_sectors (view_held side).file.phase ≡ true }
     ensures client { ClientTurned parts.old.client parts.new.client }
     ensures memory { length memory.new ≡ length memory.old }
+    ensures buffers { KeepsBuffers (State.Monitor side) parts.old (P.device ports.old)
+        result.0 parts.new (P.device ports.new) }
     ensures rest { P.rest ports.new ≡ P.rest ports.old }
     ensures reached { (origin : Device) → Reaches origin (P.device ports.old)
         → Reaches origin (P.device ports.new) }
@@ -120,6 +125,8 @@ fn first_redirected<P: Ports>(
         → leaves_sectors (view_held side).file.phase ≡ true }
     ensures client { ClientTurned parts.old.client parts.new.client }
     ensures memory { length memory.new ≡ length memory.old }
+    ensures buffers { KeepsBuffers (State.Monitor side) parts.old (P.device ports.old)
+        result.0 parts.new (P.device ports.new) }
     ensures rest { P.rest ports.new ≡ P.rest ports.old }
     ensures reached { (origin : Device) → Reaches origin (P.device ports.old)
         → Reaches origin (P.device ports.new) }
@@ -146,6 +153,8 @@ pub(crate) fn raise<P: Ports>(
         (item_of result.1) result.0 parts.now (P.device ports.new) memory }
     ensures steps { tells_steps result.1 ≡ true
         → leaves_sectors (view_held side).file.phase ≡ true }
+    ensures buffers { KeepsBuffers (State.Monitor side) parts.now (P.device ports.old)
+        result.0 parts.now (P.device ports.new) }
     ensures rest { P.rest ports.new ≡ P.rest ports.old }
     ensures reached { (origin : Device) → Reaches origin (P.device ports.old)
         → Reaches origin (P.device ports.new) }
@@ -175,6 +184,8 @@ fn given<P: Ports>(side: MonitorSide, order: Taken, ports: &mut P) -> (State, Op
         (item_of result.1) result.0 p (P.device ports.new) memory }
     ensures steps { tells_steps result.1 ≡ true
         → leaves_sectors (view_held side).file.phase ≡ true }
+    ensures buffers { (p : PartsOf) → KeepsBuffers (State.Monitor side) p (P.device ports.old)
+        result.0 p (P.device ports.new) }
     ensures rest { P.rest ports.new ≡ P.rest ports.old }
     ensures reached { (origin : Device) → Reaches origin (P.device ports.old)
         → Reaches origin (P.device ports.new) }

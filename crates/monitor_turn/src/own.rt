@@ -11,6 +11,7 @@ ghost use Rattle.fill_store.specs.Sectors.{IsOnKept, buffer_with};
 ghost use Rattle.own_pio.specs.declared.job.OwnJob.{OwnJob as JobOf};
 ghost use Rattle.own_pio.specs.Job.{command_of, count_of, job_order};
 ghost use Rattle.monitor_state.specs.State.{is_opened};
+ghost use Rattle.monitor_state.specs.Buffered.{KeepsBuffers};
 ghost use Rattle.monitor_state.specs.Fits.{Fits, FitsArea};
 ghost use Rattle.monitor_state.specs.GoesOn.{GoesOn};
 ghost use Rattle.monitor_state.specs.Overlaid.{OpeningGoesOn};
@@ -24,7 +25,7 @@ use ata_taskfile::registers::{
     BSY, FLUSH_CACHE, READ_SECTORS, SECTOR_BYTES, WRITE_SECTORS, has_bit,
 };
 use ata_taskfile::{Ports, Reg};
-use mon_pool::Lease;
+use mon_pool::{Lease, a_pool_is_whole};
 use monitor_state::{HeldPiece, Parts, Purpose, State};
 use own_pio::{Own, OwnJob, Poll};
 use port_lease::MonitorSide;
@@ -42,7 +43,7 @@ pub(crate) fn job_item(job: OwnJob) -> Item
     }
 }
 
-/// An own command is polled once.
+/// An own command is polled once. The buffers go on to hold what the plain drive has there.
 pub(crate) fn polled<P: Ports>(
     side: MonitorSide,
     own: Own,
@@ -60,6 +61,8 @@ pub(crate) fn polled<P: Ports>(
     ensures progress { OpeningFalls (State.Running side own purpose)
         parts.old (P.device ports.old) result.0 parts.new (P.device ports.new) }
     ensures opening { OpeningGoesOn (State.Running side own purpose)
+        parts.old (P.device ports.old) result.0 parts.new (P.device ports.new) }
+    ensures buffers { KeepsBuffers (State.Running side own purpose)
         parts.old (P.device ports.old) result.0 parts.new (P.device ports.new) }
     ensures rest { P.rest ports.new ≡ P.rest ports.old }
     ensures reached { (origin : Device) → Reaches origin (P.device ports.old)
@@ -90,6 +93,8 @@ fn polled_opening<P: Ports>(
     ensures progress { OpeningFalls (State.Running side own Purpose.Opening)
         parts.old (P.device ports.old) result.0 parts.new (P.device ports.new) }
     ensures opening { OpeningGoesOn (State.Running side own Purpose.Opening)
+        parts.old (P.device ports.old) result.0 parts.new (P.device ports.new) }
+    ensures buffers { KeepsBuffers (State.Running side own Purpose.Opening)
         parts.old (P.device ports.old) result.0 parts.new (P.device ports.new) }
     ensures rest { P.rest ports.new ≡ P.rest ports.old }
     ensures reached { (origin : Device) → Reaches origin (P.device ports.old)
@@ -179,11 +184,15 @@ fn polled_piece<P: Ports>(
         (item_of result.1) result.0 parts.new (P.device ports.new) memory }
     ensures client { parts.new.client ≡ parts.old.client }
     ensures opened { is_opened parts.old ≡ true }
+    ensures buffers { KeepsBuffers (State.Running side own (Purpose.Piece first count lease))
+        parts.old (P.device ports.old) result.0 parts.new (P.device ports.new) }
     ensures rest { P.rest ports.new ≡ P.rest ports.old }
     ensures reached { (origin : Device) → Reaches origin (P.device ports.old)
         → Reaches origin (P.device ports.new) }
 {
-    let bytes = &mut parts.pool.bytes_mut(&mut lease)[..SECTOR_BYTES * count as usize];
+    a_pool_is_whole(&parts.pool);
+    let buffer = parts.pool.bytes_mut(&mut lease);
+    let (bytes, _rest) = buffer.split_at_mut(SECTOR_BYTES * count as usize);
     match own.poll(&mut side, ports, bytes) {
         Poll::Waiting | Poll::Moved => {
             let purpose = Purpose::Piece(first, count, lease);
@@ -224,6 +233,8 @@ pub(crate) fn opening_next<P: Ports>(
     ensures progress { OpeningFalls (State.Monitor side) parts.now (P.device ports.old)
         result.0 parts.now (P.device ports.new) }
     ensures opening { OpeningGoesOn (State.Monitor side) parts.now (P.device ports.old)
+        result.0 parts.now (P.device ports.new) }
+    ensures buffers { KeepsBuffers (State.Monitor side) parts.now (P.device ports.old)
         result.0 parts.now (P.device ports.new) }
     ensures rest { P.rest ports.new ≡ P.rest ports.old }
     ensures reached { (origin : Device) → Reaches origin (P.device ports.old)

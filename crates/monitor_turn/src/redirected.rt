@@ -8,6 +8,7 @@ ghost use Rattle.ata_taskfile.specs.declared.Form.TheVariants.{PioIn, DmaIn};
 ghost use Rattle.mon_pool.specs.Region.{buffers_in, out_of};
 ghost use Rattle.plain_drive.specs.Plain.{plain};
 ghost use Rattle.plain_drive.specs.Step.{AllAct, went};
+ghost use Rattle.port_lease.specs.declared.monitor_side.MonitorSide.{MonitorSide as MonitorSideOf};
 ghost use Rattle.port_lease.specs.Sides.{has_own, view_held};
 ghost use Rattle.guest_view.specs.Fits.{FitsView};
 ghost use Rattle.guest_view.specs.Seen.{on_monitor_side};
@@ -17,6 +18,7 @@ ghost use Rattle.redirect.specs.Meaning.{IsReadable, IsServed};
 ghost use Rattle.redirect.specs.Next.{request_of};
 ghost use Rattle.overlay.specs.Steps.{leaves_sectors};
 ghost use Rattle.monitor_state.specs.State.{is_opened, range_of};
+ghost use Rattle.monitor_state.specs.Buffered.{KeepsBuffers};
 ghost use Rattle.monitor_state.specs.Leases.{AreLeased, leases_of_parts};
 ghost use Rattle.monitor_state.specs.Fits.{Fits, FitsArea, FitsParts};
 ghost use Rattle.monitor_state.specs.GoesOn.{GoesOn};
@@ -30,10 +32,11 @@ ghost use Rattle.monitor_turn.specs.Work.{IsWorkedOn};
 
 use crate::commands::raise;
 use crate::own::job_item;
-use aoe_client::Slot;
+use aoe_client::{Slot, a_slot_has_a_blocks_tags};
 use ata_taskfile::{Phase, Ports, Request, Taken};
 use bm_dma::GuestMemory;
 use io_interpret::first_piece;
+use mon_pool::a_pool_is_whole;
 use monitor_state::{HeldPiece, Parts, Plan, Purpose, State};
 use own_pio::{Own, OwnJob};
 use port_lease::MonitorSide;
@@ -58,6 +61,8 @@ pub(crate) fn redirected<P: Ports>(
         → leaves_sectors (view_held side).file.phase ≡ true }
     ensures client { ClientTurned parts.old.client parts.new.client }
     ensures memory { length memory.new ≡ length memory.old }
+    ensures buffers { KeepsBuffers (State.Monitor side) parts.old (P.device ports.old)
+        result.0 parts.new (P.device ports.new) }
     ensures rest { P.rest ports.new ≡ P.rest ports.old }
     ensures reached { (origin : Device) → Reaches origin (P.device ports.old)
         → Reaches origin (P.device ports.new) }
@@ -70,6 +75,8 @@ pub(crate) fn redirected<P: Ports>(
     };
     let sector = order.first + u64::from(done);
     let end = order.first + u64::from(order.count);
+    a_pool_is_whole(&parts.pool);
+    a_slot_has_a_blocks_tags(&parts.client);
     collect(parts, sector, end);
     worked_on(side, redirect, order, done, parts, ports, memory)
 }
@@ -117,6 +124,8 @@ fn worked_on<P: Ports>(
     ensures client { ClientTurned parts.old.client parts.new.client }
     ensures unasked { is_some parts.old.held ≡ true → parts.new.client ≡ parts.old.client }
     ensures memory { length memory.new ≡ length memory.old }
+    ensures buffers { KeepsBuffers (State.Monitor side) parts.old (P.device ports.old)
+        result.0 parts.new (P.device ports.new) }
     ensures rest { P.rest ports.new ≡ P.rest ports.old }
     ensures reached { (origin : Device) → Reaches origin (P.device ports.old)
         → Reaches origin (P.device ports.new) }
@@ -153,6 +162,8 @@ fn ask(parts: &mut Parts, block: u32)
     ensures buffers { buffers_in parts.new.pool ≡ buffers_in parts.old.pool }
     ensures leased { AreLeased (leases_of_parts parts.old) parts.old
         → AreLeased (leases_of_parts parts.new) parts.new }
+    ensures kept { (side : MonitorSideOf) (d : Device) →
+        KeepsBuffers (State.Monitor side) parts.old d (State.Monitor side) parts.new d }
 {
     let lease = parts.take_lease();
     match parts.client.ask(Slot::Demand, block, lease) {
@@ -161,7 +172,7 @@ fn ask(parts: &mut Parts, block: u32)
     }
 }
 
-// An own read of a piece begins.
+// An own read of a piece begins. The buffers go on to hold what the plain drive has there.
 fn read<P: Ports>(
     mut side: MonitorSide,
     redirect: Redirect,
@@ -182,11 +193,14 @@ fn read<P: Ports>(
         GoesOn (State.Monitor side) parts.old (P.device ports.old) bytes
         (item_of result.1) result.0 parts.new (P.device ports.new) bytes }
     ensures client { parts.new.client ≡ parts.old.client }
+    ensures buffers { KeepsBuffers (State.Monitor side) parts.old (P.device ports.old)
+        result.0 parts.new (P.device ports.new) }
     ensures rest { P.rest ports.new ≡ P.rest ports.old }
     ensures reached { (origin : Device) → Reaches origin (P.device ports.old)
         → Reaches origin (P.device ports.new) }
 {
     let lease = parts.take_lease();
+    a_pool_is_whole(&parts.pool);
     let job = OwnJob::Read(first, count);
     let own = Own::begin(&mut side, ports, job);
     let purpose = Purpose::Piece(first, count, lease);
@@ -213,6 +227,8 @@ fn offered<P: Ports>(
     ensures shown { (bytes : List ℕ) →
         GoesOn (State.Monitor side) parts.now (P.device ports.old) bytes
         (item_of result.1) result.0 parts.now (P.device ports.new) bytes }
+    ensures buffers { KeepsBuffers (State.Monitor side) parts.now (P.device ports.old)
+        result.0 parts.now (P.device ports.new) }
     ensures rest { P.rest ports.new ≡ P.rest ports.old }
     ensures reached { (origin : Device) → Reaches origin (P.device ports.old)
         → Reaches origin (P.device ports.new) }
@@ -241,6 +257,8 @@ fn scattered<P: Ports>(
         (item_of result.1) result.0 parts.new (P.device ports.new) memory.new }
     ensures client { parts.new.client ≡ parts.old.client }
     ensures memory { length memory.new ≡ length memory.old }
+    ensures buffers { KeepsBuffers (State.Monitor side) parts.old (P.device ports.old)
+        result.0 parts.new (P.device ports.new) }
     ensures rest { P.rest ports.new ≡ P.rest ports.old }
     ensures reached { (origin : Device) → Reaches origin (P.device ports.old)
         → Reaches origin (P.device ports.new) }

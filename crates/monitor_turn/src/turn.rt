@@ -7,6 +7,7 @@ ghost use Rattle.ata_taskfile.specs.Device.{Device};
 ghost use Rattle.ata_taskfile.specs.Accesses.{Reaches};
 ghost use Rattle.port_lease.specs.Sides.{view_held};
 ghost use Rattle.overlay.specs.Steps.{leaves_sectors};
+ghost use Rattle.monitor_state.specs.Buffered.{KeepsBuffers};
 ghost use Rattle.monitor_state.specs.State.{is_opened};
 ghost use Rattle.monitor_state.specs.Fits.{Fits, IsBetweenEvents};
 ghost use Rattle.monitor_state.specs.GoesOn.{GoesOn};
@@ -34,7 +35,8 @@ use schedule_text::Item;
 ///
 /// Steps are told of a reset and of a read alone, which change no sector. A block that is to be obtained is asked of
 /// the client. While opening hasn't ended less is left of it after each turn at which the drive isn't at work, and the
-/// sectors of every plain drive stay those that the deployment gives its guest, also where it ends now.
+/// sectors of every plain drive stay those that the deployment gives its guest, also where it ends now. The buffers go
+/// on to hold what the plain drive has there.
 pub fn turned<P: Ports>(
     state: State,
     parts: &mut Parts,
@@ -57,6 +59,8 @@ pub fn turned<P: Ports>(
     ensures progress { OpeningFalls state parts.old (P.device ports.old)
         result.0 parts.new (P.device ports.new) }
     ensures opening { OpeningGoesOn state parts.old (P.device ports.old)
+        result.0 parts.new (P.device ports.new) }
+    ensures buffers { KeepsBuffers state parts.old (P.device ports.old)
         result.0 parts.new (P.device ports.new) }
     ensures memory { length memory.new ≡ length memory.old }
     ensures rest { P.rest ports.new ≡ P.rest ports.old }
@@ -88,6 +92,8 @@ fn taken<P: Ports>(
         → leaves_sectors (P.device ports.old).file.phase ≡ true }
     ensures client { ClientTurned parts.old.client parts.new.client }
     ensures memory { length memory.new ≡ length memory.old }
+    ensures buffers { KeepsBuffers (State.Guest side) parts.old (P.device ports.old)
+        result.0 parts.new (P.device ports.new) }
     ensures rest { P.rest ports.new ≡ P.rest ports.old }
     ensures reached { (origin : Device) → Reaches origin (P.device ports.old)
         → Reaches origin (P.device ports.new) }
@@ -118,6 +124,8 @@ fn monitor<P: Ports>(
     ensures opening { OpeningGoesOn (State.Monitor side) parts.old (P.device ports.old)
         result.0 parts.new (P.device ports.new) }
     ensures memory { length memory.new ≡ length memory.old }
+    ensures buffers { KeepsBuffers (State.Monitor side) parts.old (P.device ports.old)
+        result.0 parts.new (P.device ports.new) }
     ensures rest { P.rest ports.new ≡ P.rest ports.old }
     ensures reached { (origin : Device) → Reaches origin (P.device ports.old)
         → Reaches origin (P.device ports.new) }
@@ -144,6 +152,8 @@ fn restarted<P: Ports>(mut side: MonitorSide, parts: &Parts, ports: &mut P) -> (
     ensures steps { tells_steps result.1 ≡ true
         → leaves_sectors (view_held side).file.phase ≡ true }
     ensures unmoved { P.device ports.new ≡ P.device ports.old }
+    ensures buffers { KeepsBuffers (State.Monitor side) parts.now (P.device ports.old)
+        result.0 parts.now (P.device ports.new) }
     ensures rest { P.rest ports.new ≡ P.rest ports.old }
     ensures reached { (origin : Device) → Reaches origin (P.device ports.old)
         → Reaches origin (P.device ports.new) }

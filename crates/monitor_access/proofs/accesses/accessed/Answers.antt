@@ -70,3 +70,15 @@ returns-in-Raising-clause-opening g c =
     raising_goes_on c.args.state c.raising.result.0 c.in-Raising.side c.in-Raising.dummy c.in-Raising.plan
     c.args.parts.now c.raising.new.parts (g.P.Ports.device c.args.ports.now)
     (g.P.Ports.device c.raising.new.ports) c.in-Raising.is c.requires.fits
+
+pub returns-in-Guest-clause-buffers : goal.returns-in-Guest-clause-buffers
+returns-in-Guest-clause-buffers g c = λ k plain has. rw c.in-Guest.is (c.guest.ensures.buffers k.image plain)
+
+pub returns-in-Monitor-clause-buffers : goal.returns-in-Monitor-clause-buffers
+returns-in-Monitor-clause-buffers g c = λ k plain has. rw c.in-Monitor.is (c.resting.ensures.buffers k.image plain)
+
+pub returns-in-Running-clause-buffers : goal.returns-in-Running-clause-buffers
+returns-in-Running-clause-buffers g c = λ k plain has. rw c.in-Running.is (c.running.ensures.buffers k.image plain)
+
+pub returns-in-Raising-clause-buffers : goal.returns-in-Raising-clause-buffers
+returns-in-Raising-clause-buffers g c = λ k plain has. rw c.in-Raising.is (c.raising.ensures.buffers k.image plain)

@@ -5,6 +5,7 @@ use Rattle.plain_drive.specs.Alike.{after_access}
 use Rattle.port_lease.specs.Sides.{view_held}
 use Rattle.monitor_state.specs.declared.parts.Parts.{Parts}
 use Rattle.monitor_state.specs.Seen.{Shows}
+use Rattle.monitor_access.proofs.Buffers.{raising_holds}
 use Rattle.monitor_access.proofs.Viewed.{viewed_shown}
 use Rattle.monitor_access.proofs.accesses.raising.Goals as goal
 
@@ -31,3 +32,10 @@ returns-clause-shown g c = λ memory q shows none.
     (record { file = refl; bus = refl; block = refl; refused = refl })
     (record { file = refl; bus = refl; block = refl; refused = refl })
     call.ensures.accessed.view call.ensures.seen fits.parts.state.2 memory q shows (sym call.ensures.mark ∙ none))
+
+pub returns-clause-buffers : goal.returns-clause-buffers
+returns-clause-buffers g c =
+    let call = c.by_view-answer in
+    raising_holds (view_held call.new.side).file.phase c.args.side call.new.side c.args.dummy c.args.plan
+    c.args.parts.now call.new.parts (g.P.Ports.device c.args.ports.now) (g.P.Ports.device call.new.ports)
+    call.ensures.parts

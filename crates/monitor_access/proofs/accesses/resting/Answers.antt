@@ -3,6 +3,7 @@ use Rattle.plain_drive.specs.Alike.{after_access}
 use Rattle.port_lease.specs.Sides.{view_held}
 use Rattle.monitor_state.specs.declared.parts.Parts.{Parts}
 use Rattle.monitor_state.specs.Seen.{Shows}
+use Rattle.monitor_access.proofs.Buffers.{resting_holds}
 use Rattle.monitor_access.proofs.Opening.{resting_goes_on}
 use Rattle.monitor_access.proofs.Viewed.{viewed_shown}
 use Rattle.monitor_state.specs.declared.state.State.TheVariants.{Monitor}
@@ -31,3 +32,9 @@ returns-clause-opening g c =
     resting_goes_on c.args.access.now (view_held call.new.side).file.phase c.args.side call.new.side c.args.parts.now
     call.new.parts (g.P.Ports.device c.args.ports.now) (g.P.Ports.device call.new.ports) call.ensures.parts
     call.ensures.drive
+
+pub returns-clause-buffers : goal.returns-clause-buffers
+returns-clause-buffers g c =
+    let call = c.by_view-answer in
+    resting_holds (view_held call.new.side).file.phase c.args.side call.new.side c.args.parts.now call.new.parts
+    (g.P.Ports.device c.args.ports.now) (g.P.Ports.device call.new.ports) call.ensures.parts

@@ -1,7 +1,10 @@
-use Rattle.std.proofs.Common.{◌≡◌, subst, sym, Some}
+use Rattle.std.proofs.Common.{◌≡◌, refl, subst, sym, Some}
 use Rattle.std.specs.Prelude.{◌↔◌, true}
+use Rattle.aoe_client.specs.Messages.{sectors_carried}
 use Rattle.schedule_text.specs.declared.Item.TheVariants.{Forged}
 use Rattle.streaming.specs.Client.{TakesFrame}
+use Rattle.monitor_state.specs.Buffered.{image_part}
+use Rattle.monitor_events.proofs.Buffers.{frame_holds, source_gives}
 use Rattle.monitor_events.proofs.Frames.{heard_asks, marked}
 use Rattle.monitor_events.proofs.hearing.heard.Goals as goal
 
@@ -28,3 +31,12 @@ returns-clause-fits c s d fits =
     (c.asks_stay.ensures.heard what c.args.parts.now.client) c.frame_in-what.ensures.after
     c.frame_in-what.ensures.rest in
     c.same_asks_keep_the_fit.ensures.fits s c.args.parts.now _ d asks fits
+
+pub returns-clause-buffers : goal.returns-clause-buffers
+returns-clause-buffers c = λ image s d g fits gives.
+    let p = c.args.parts.now in
+    let frame = c.args.frame.now in
+    let call = c.frame_in-what in
+    frame_holds p (record p { client = call.new.self; pool = call.new.pool }) refl call.ensures.others image s d g fits
+    (call.ensures.kept (image_part image)
+    (source_gives (image_part image) call.result frame (sectors_carried frame) p.client call.ensures.took gives))

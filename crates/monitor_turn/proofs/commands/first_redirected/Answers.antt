@@ -1,5 +1,6 @@
 use Rattle.port_lease.specs.Sides.{view_held}
 use Rattle.streaming.specs.Monitor.{item_of}
+use Rattle.monitor_turn.proofs.Buffers.{redirect_buffers}
 use Rattle.monitor_turn.proofs.Fresh.{goes_on_over, may_redirect, redirect_fits, turned_over}
 use Rattle.monitor_turn.proofs.commands.first_redirected.Goals as goal
 
@@ -24,3 +25,7 @@ pub returns-clause-shown : goal.returns-clause-shown
 returns-clause-shown g c =
     goes_on_over c.new.result c.args.side c.args.parts.now _ _ _ _ _ (item_of c.redirected.result.1) _
     c.redirected.ensures.shown
+
+pub returns-clause-buffers : goal.returns-clause-buffers
+returns-clause-buffers g c =
+    redirect_buffers c.new.result c.args.side _ c.args.parts.now _ _ _ c.requires.opened c.redirected.ensures.buffers

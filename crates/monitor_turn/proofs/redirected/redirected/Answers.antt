@@ -5,6 +5,7 @@ use Rattle.port_lease.specs.declared.view.View.{View}
 use Rattle.port_lease.specs.Sides.{view_held}
 use Rattle.ata_taskfile.specs.declared.Taken.{Taken}
 use Rattle.aoe_client.specs.Asking.{done_in}
+use Rattle.monitor_turn.proofs.Buffers.{collected_buffers}
 use Rattle.monitor_turn.proofs.Collecting.{client_before, collected_fits, collected_seen, turned_before}
 use Rattle.monitor_turn.proofs.redirected.redirected.Goals as goal
 
@@ -46,3 +47,16 @@ returns-clause-shown g c = λ q shows agree.
     c.in-Some.is shows agree in
     let made = rw (c.collect.ensures.after, c.from.ensures, c.from-2.ensures) at c.worked_on.ensures.shown in
     made q seen.0 seen.1
+
+pub returns-clause-buffers : goal.returns-clause-buffers
+returns-clause-buffers g c =
+    let order = c.in-Busy-Good-default.order in
+    let done = c.in-Busy-Good-default.done in
+    let good = rw c.in-Busy-Good-default.is at c.in-Busy-Good-default.field-0-is in
+    let at : (view_held c.args.side).file.phase ≡ Busy (Good order) done =
+    ap (λ (v : View). v.file.phase) (sym c.view.ensures) ∙ c.in-Busy-Good-default.is
+    ∙ ap (λ (order : Taken). Busy order done) good in
+    let r = c.requires in
+    collected_buffers c.args.side c.in-Some.redirect order done _ c.args.parts.now _ _ _ r.fits at c.in-Some.is r.opened
+    c.a_pool_is_whole.ensures c.a_slot_has_a_blocks_tags.ensures.demand
+    (rw (c.collect.ensures.after, c.from.ensures, c.from-2.ensures) at c.worked_on.ensures.buffers)

@@ -32,3 +32,6 @@ returns-in-Raise-clause-shown g c = c.raise.ensures.shown c.args.memory.now
 
 pub returns-in-End-clause-shown : goal.returns-in-End-clause-shown
 returns-in-End-clause-shown g c = c.raise-in-End.ensures.shown c.args.memory.now
+
+pub returns-in-Ask-clause-buffers : goal.returns-in-Ask-clause-buffers
+returns-in-Ask-clause-buffers g c = c.ask.ensures.kept c.args.side (g.P.Ports.device c.args.ports.now)

@@ -1,8 +1,9 @@
-use Rattle.std.proofs.Common.{sym, subst}
+use Rattle.std.proofs.Common.{sym, subst, ap}
 use Rattle.ata_taskfile.specs.Device.{Device}
 use Rattle.monitor_state.specs.declared.state.State.TheVariants.{Monitor}
 use Rattle.monitor_state.specs.Fits.{Fits}
 use Rattle.streaming.specs.Monitor.{item_of}
+use Rattle.monitor_turn.proofs.Buffers.{taken_buffers}
 use Rattle.monitor_turn.proofs.Taken.{taken_fits, taken_goes_on}
 use Rattle.monitor_turn.proofs.turn.taken.Goals as goal
 
@@ -20,3 +21,9 @@ returns-in-Ok-clause-shown g c =
     let ok = c.in-Ok.ensures in
     taken_goes_on c.args.side c.in-Ok.side c.args.parts.now _ _ _ _ _ _ (item_of c.monitor.result.1) _ (sym ok.free)
     ok.file ok.same c.monitor.ensures.shown
+
+pub returns-in-Ok-clause-buffers : goal.returns-in-Ok-clause-buffers
+returns-in-Ok-clause-buffers g c =
+    let ok = c.in-Ok.ensures in
+    taken_buffers c.args.side c.in-Ok.side _ c.args.parts.now _ _ _ _ c.requires.fits.parts.state.1
+    (ap (λ (d : Device). d.cells) ok.drive) c.monitor.ensures.buffers
