@@ -4,11 +4,13 @@ use Rattle.std.proofs.lemmas.List.{append_cancel_left}
 use Rattle.ata_taskfile.specs.Accesses.{Reaches}
 use Rattle.ata_taskfile.specs.Device.{Cell, Device, powered_on}
 use Rattle.ata_taskfile.specs.Lawful.{IsLawful}
-use Rattle.aoe_client.specs.Asking.{Asking}
+use Rattle.aoe_client.specs.Asking.{Asking, HasTags}
+use Rattle.mon_pool.specs.Region.{HasWholeBuffers}
+use Rattle.aoe_client.specs.Buffers.{BothHold}
 use Rattle.plain_drive.specs.Alike.{block_matters, without_command}
 use Rattle.fill_bitmap.specs.declared.area.Area.{Area}
 use Rattle.fill_bitmap.specs.Area.{IsSuitable}
-use Rattle.fill_bitmap.specs.Disk.{guest_view, stored_blocks}
+use Rattle.fill_bitmap.specs.Disk.{guest_view, sector_at, stored_blocks}
 use Rattle.plain_drive.specs.Plain.{Plain, plain, stored}
 use Rattle.port_lease.specs.declared.view.View.{View}
 use Rattle.port_lease.specs.Seen.{bus_beside}
@@ -27,13 +29,16 @@ use Rattle.monitor_state.specs.declared.parts.Parts.{Parts}
 use Rattle.monitor_state.specs.Fits.{Fits}
 use Rattle.monitor_state.specs.GoesOn.{GoesOn}
 use Rattle.monitor_state.specs.Overlaid.{HasSectors, Known}
+use Rattle.monitor_state.specs.Buffered.{HasBuffers, image_part}
+use Rattle.monitor_state.specs.Sectors.{IsPieceOf}
 use Rattle.monitor_state.specs.Seen.{Shows, is_refused_in}
 use Rattle.monitor_state.specs.Start.{IsBegun}
 use Rattle.monitor_state.proofs.Openings.{begun_sectors}
 use Rattle.monitor_state.proofs.Shown.{same_refused, same_seen}
 use Rattle.mediator.specs.declared.mediator.Mediator.{Mediator}
 use Rattle.mediator.specs.Couples.{KeepsAll, KeepsAlong, StandsAtPowerOn, line_of}
-use Rattle.mediator.specs.Mediator.{IsAtPowerOn, StartsWith, parts_of, state_of, with_client}
+use Rattle.mediator.specs.Mediator.{IsAtPowerOn, StartsWith, client_of, parts_of, state_of, with_client}
+use Rattle.mediator.proofs.Buffers.{client_buffers}
 use Rattle.mediator.proofs.Sectors.{client_sectors, sectors_agree}
 use Rattle.mediator.proofs.Told.{told_acts, told_planned}
 
@@ -56,26 +61,34 @@ unmoved_told call q given d lines none told =
 -- a call that told this, and sent these requests
 pub along_kept : (call : Call) (m n : Mediator) (d e : Device) (memory left : List ℕ) (told : Option Item)
     (tags : List ℕ) (before after : List Item) → after ≡ before ++ (item_of told ++ asked_items tags)
-    → IsLawful d → Fits (state_of m) (parts_of m) d
+    → IsLawful d → Fits (state_of m) (parts_of m) d → HasTags (client_of m).block (client_of m).demand
+    → HasWholeBuffers (parts_of m).pool
     → GoesOn (state_of m) (parts_of m) d memory (item_of told) (state_of n) (parts_of n) e left
     → ((k : Known) (q : Plain) → Shows (state_of m) (parts_of m) d memory q
     → HasSectors k (state_of m) (parts_of m) d q.device.cells
     → HasSectors k (state_of n) (parts_of n) e (planned (item_of told) q).device.cells)
+    → ((k : Known) (q : Plain) → Shows (state_of m) (parts_of m) d memory q
+    → HasSectors k (state_of m) (parts_of m) d q.device.cells
+    → HasBuffers k.image (state_of m) (parts_of m) d q.device
+    → HasBuffers k.image (state_of n) (parts_of n) e (planned (item_of told) q).device)
     → ((q : Plain) (lines : List Line) (given : List Item) → given ≡ item_of told ++ asked_items tags
     → IsTold d.file lines → IsTold e.file (line_of call q given ∷ lines))
     → KeepsAlong call before after m d memory n e left
-along_kept call m n d e memory left told tags before after items lawful fits goes_on sectors is_told =
-    λ k q lines given is couples pieces.
+along_kept call m n d e memory left told tags before after items lawful fits has_tags whole goes_on sectors
+    buffers is_told = λ k q lines given is couples.
     let same : given ≡ item_of told ++ asked_items tags = append_cancel_left before _ _ (sym is ∙ items) in
     let made : planned given q ≡ planned (item_of told) q =
     ap (λ xs. planned xs q) same ∙ told_planned told tags q in
-    let agree = sectors_agree k (state_of m) (parts_of m) d q lawful fits couples.sectors pieces.held pieces.came in
+    let agree = sectors_agree k (state_of m) (parts_of m) d q lawful fits couples.sectors
+    couples.buffers has_tags whole in
     let goes = goes_on q couples.shows agree in (
       subst (λ xs. ActsAlong xs q) (sym same) (told_acts told tags q goes.0),
       record {
         shows = subst (λ r. Shows (state_of n) (parts_of n) e left r) (sym made) goes.1;
         sectors = subst (λ (r : Plain). HasSectors k (state_of n) (parts_of n) e r.device.cells) (sym made)
             (sectors k q couples.shows couples.sectors);
+        buffers = subst (λ (r : Plain). HasBuffers k.image (state_of n) (parts_of n) e r.device) (sym made)
+            (buffers k q couples.shows couples.sectors couples.buffers);
         told = is_told q lines given same couples.told;
       },
     )
@@ -103,14 +116,19 @@ client_shown Moving p c d memory q shows =
 
 -- a call in which no more changed than what the client asks for
 pub client_kept : (call : Call) (m n : Mediator) (c : Asking) (given before after : List Item) → n ≡ with_client c m
-    → after ≡ before ++ given → commands_in given ≡ [] → KeepsAll call before after m n
-client_kept call m n c gave before after is items none = λ k d memory q lines given says couples.
+    → after ≡ before ++ given → commands_in given ≡ []
+    → ((source : ℕ → List ℕ) → BothHold source (client_of m) (parts_of m).pool → BothHold source c (parts_of m).pool)
+    → KeepsAll call before after m n
+client_kept call m n c gave before after is items none outlast = λ k d memory q lines given says couples.
     let same : given ≡ gave = append_cancel_left before _ _ (sym says ∙ items) in
     record {
       shows = subst (λ (x : Mediator). Shows (state_of x) (parts_of x) d memory q) (sym is)
           (client_shown (state_of m) (parts_of m) c d memory q couples.shows);
       sectors = subst (λ (x : Mediator). HasSectors k (state_of x) (parts_of x) d q.device.cells) (sym is)
           (client_sectors k (state_of m) (parts_of m) c (parts_of m).pool d q.device.cells couples.sectors);
+      buffers = subst (λ (x : Mediator). HasBuffers k.image (state_of x) (parts_of x) d q.device) (sym is)
+          (client_buffers k.image (state_of m) (parts_of m) c d q.device
+          (outlast (image_part k.image) couples.buffers.asked) couples.buffers);
       told = unmoved_told call q given d lines (ap commands_in same ∙ none) couples.told;
     }
 
@@ -142,6 +160,21 @@ started_sectors image disk Moving p buffers starts suitable some long begun = ab
 started_sectors image disk (Monitor side) p buffers starts suitable some long begun =
     begun_sectors image disk p.area p.id buffers p side suitable some long begun
 
+-- and nothing is held or asked
+started_buffers : (image : List (List ℕ)) (s : State) (area : Area) (id buffers : ℕ) (p : Parts) (d g : Device)
+    → StartsWith s → IsBegun area id buffers p
+    → ((s : ℕ) → s < length image → length (sector_at s image) ≡ 512) → HasBuffers image s p d g
+started_buffers image (Guest side) area id buffers p d g starts begun whole = absurd starts
+started_buffers image (Running side own why) area id buffers p d g starts begun whole = absurd starts
+started_buffers image (Raising side dummy kind) area id buffers p d g starts begun whole = absurd starts
+started_buffers image Moving area id buffers p d g starts begun whole = absurd starts
+started_buffers image (Monitor side) area id buffers p d g starts begun whole = record {
+  whole = whole;
+  held = subst (IsPieceOf g p.pool) (sym begun.held) tt;
+  asked = subst (λ (c : Asking). BothHold (image_part image) c p.pool) (sym begun.client) (tt, tt);
+  read = tt;
+}
+
 -- parts that are begun over an area, for a run, are so over their own
 own_begun : (area : Area) (id buffers : ℕ) (p : Parts) → IsBegun area id buffers p → IsBegun p.area p.id buffers p
 own_begun area id buffers p begun =
@@ -150,7 +183,7 @@ own_begun area id buffers p begun =
 
 pub stands_at_power_on : (area : Area) (id buffers : ℕ) (m : Mediator) → IsSuitable area → 0 < area.image
     → IsAtPowerOn area id buffers m → StandsAtPowerOn m
-stands_at_power_on area id buffers m suitable some begun = λ image disk memory lines long.
+stands_at_power_on area id buffers m suitable some begun = λ image disk memory lines whole long.
     let p = parts_of m in record {
       shows = started_shown (state_of m) p (stored disk) (stored (guest_view p.area p.id image disk)) memory
           begun.state;
@@ -158,5 +191,7 @@ stands_at_power_on area id buffers m suitable some begun = λ image disk memory 
           (subst IsSuitable (sym begun.parts.area_is) suitable)
           (subst (λ (a : Area). 0 < a.image) (sym begun.parts.area_is) some) long
           (own_begun area id buffers p begun.parts);
+      buffers = started_buffers image (state_of m) area id buffers p (powered_on (stored disk) p.area.sectors)
+          (powered_on (stored (guest_view p.area p.id image disk)) p.area.sectors) begun.state begun.parts whole;
       told = tt;
     }

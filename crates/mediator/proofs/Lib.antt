@@ -5,5 +5,8 @@ pub mod DueItems
 pub mod Stepped
 pub mod Standing
 pub mod Told
+pub mod Came
 pub mod Sectors
+pub mod Buffers
 pub mod Coupled
+pub mod Between

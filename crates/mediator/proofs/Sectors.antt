@@ -13,8 +13,8 @@ use Rattle.ata_taskfile.specs.Access.{accessed}
 use Rattle.ata_taskfile.specs.Device.{Cell, Device}
 use Rattle.ata_taskfile.specs.Lawful.{IsLawful}
 use Rattle.ata_taskfile.proofs.Cells.{accessed-cells}
-use Rattle.aoe_client.specs.Asking.{Asking, done_in}
-use Rattle.mon_pool.specs.Region.{Region}
+use Rattle.aoe_client.specs.Asking.{Asking, HasTags}
+use Rattle.mon_pool.specs.Region.{HasWholeBuffers, Region}
 use Rattle.dummy_read.specs.Flight.{ended}
 use Rattle.plain_drive.specs.Alike.{ReadAlike, gives_data}
 use Rattle.plain_drive.specs.Plain.{Plain}
@@ -39,10 +39,12 @@ use Rattle.monitor_state.specs.declared.state.Purpose.TheVariants as purpose
 use Rattle.monitor_state.specs.declared.state.Plan.{Plan}
 use Rattle.monitor_state.specs.declared.state.Plan.TheVariants as plan
 use Rattle.monitor_state.specs.declared.parts.Parts.{Parts}
-use Rattle.monitor_state.specs.State.{is_opened}
+use Rattle.monitor_state.specs.State.{is_guests, is_opened}
 use Rattle.monitor_state.specs.Fits.{Fits, FitsPlan}
 use Rattle.monitor_state.specs.Overlaid.{HasSectors, Known, OpeningGoesOn, OpensOver}
-use Rattle.monitor_state.specs.Sectors.{IsBlockOf, IsPieceOf, SectorsAgree}
+use Rattle.monitor_state.specs.Buffered.{HasBuffers}
+use Rattle.monitor_state.specs.Sectors.{SectorsAgree}
+use Rattle.mediator.proofs.Came.{came_agrees}
 use Rattle.monitor_state.specs.Seen.{Shows, file_seen, is_refused_in}
 use Rattle.monitor_state.proofs.Shown.{shown_alike}
 use Rattle.monitor_state.proofs.Overlaid.{guests_reads, registered_sectors}
@@ -103,7 +105,14 @@ phase_seen : (s : State) (p : Parts) (d : Device) (memory : List ℕ) (q : Plain
     → q.device.file.phase ≡ (file_seen s d).phase
 phase_seen s p d memory q shows = ap (λ (f : TaskFile). f.phase) shows.file
 
--- a turn keeps the sectors
+-- a turn's steps change no sector of the plain drive
+pub turned_cells : (s : State) (p : Parts) (d : Device) (memory : List ℕ) (told : Option Item) (q : Plain)
+    → MayTell told → (tells_steps told ≡ true → leaves_sectors (file_seen s d).phase ≡ true) → Shows s p d memory q
+    → (planned (item_of told) q).device.cells ≡ q.device.cells
+turned_cells s p d memory told q may steps shows =
+    told_cells told q may (λ tells. ap leaves_sectors (phase_seen s p d memory q shows) ∙ steps tells)
+
+-- so a turn keeps the sectors
 pub turned_sectors : (k : Known) (s t : State) (p r : Parts) (d e : Device) (memory : List ℕ) (told : Option Item)
     (q : Plain) → KeepsImage p r → ((origin : Device) → Reaches origin d → Reaches origin e)
     → OpeningGoesOn s p d t r e → MayTell told
@@ -111,9 +120,7 @@ pub turned_sectors : (k : Known) (s t : State) (p r : Parts) (d e : Device) (mem
     → Shows s p d memory q → HasSectors k s p d q.device.cells
     → HasSectors k t r e (planned (item_of told) q).device.cells
 turned_sectors k s t p r d e memory told q image reached goes_on may steps shows has =
-    subst (HasSectors k t r e)
-    (sym (told_cells told q may
-    (λ tells. ap leaves_sectors (phase_seen s p d memory q shows) ∙ steps tells)))
+    subst (HasSectors k t r e) (sym (turned_cells s p d memory told q may steps shows))
     (called_sectors (is_opened p) k s t p r d e q.device.cells refl image (reached_cells d e reached) goes_on has)
 
 -- the step that was planned for the view changes no sector of the plain drive
@@ -195,6 +202,24 @@ stepped_sectors k (Raising side dummy planned_step) t p kind effect old now q co
     come.fits come.stepped has)
 stepped_sectors k Moving t p kind effect old now q come stays shows has = absurd come.fits.device
 
+-- while the monitor has the drive no step of the drive changes a sector of the plain one
+raised_cells : (pends : Bool) (kind : Plan) (phase : Phase) (p : Parts) (q : Plain) → q.device.file.phase ≡ phase
+    → FitsPlan kind phase p → is_refused_in phase p ≡ false
+    → (planned (item_of (if pends then Some (item_planned kind) else None)) q).device.cells ≡ q.device.cells
+raised_cells true kind phase p q is fits served = planned_cells kind phase p q is fits served
+raised_cells false kind phase p q is fits served = refl
+
+pub unseen_cells : (s : State) (p : Parts) (kind : Step) (effect : Stepped) (old now q : Plain)
+    → HasComeTo s p kind effect old now → Shows s p old.device old.memory q → is_guests s ≡ false
+    → (planned (item_of (plan_due_of s kind effect now.device)) q).device.cells ≡ q.device.cells
+unseen_cells (Guest side) p kind effect old now q come shows apart = absurd (true≢false apart)
+unseen_cells (Monitor side) p kind effect old now q come shows apart = refl
+unseen_cells (Running side own why) p kind effect old now q come shows apart = refl
+unseen_cells (Raising side dummy planned_step) p kind effect old now q come shows apart =
+    raised_cells now.device.file.pending planned_step (view_held side).file.phase p q
+    (phase_seen (Raising side dummy planned_step) p old.device old.memory q shows) come.fits.parts.state.7 shows.served
+unseen_cells Moving p kind effect old now q come shows apart = absurd come.fits.device
+
 -- and so it is where the call found the drive, and what it made of that
 pub stepped_sectors_at : (k : Known) (s t : State) (p r : Parts) (kind : Step) (effect : Stepped) (old now : Plain)
     (d e : Device) (told : Option Item) (q : Plain) → now.device ≡ d → (ends_dummy s d ≡ false → t ≡ s)
@@ -251,14 +276,26 @@ client_sectors k s p c pool d plain has = record {
 
 -- what the guest gets of sectors is the plain drive's
 pub sectors_agree : (k : Known) (s : State) (p : Parts) (d : Device) (q : Plain) → IsLawful d → Fits s p d
-    → HasSectors k s p d q.device.cells → IsPieceOf q.device p.pool p.held
-    → IsBlockOf q.device p.pool p.client.block (done_in p.client.demand) → SectorsAgree s p d q
-sectors_agree k (Guest side) p d q lawful fits has held came =
-    record { drives = λ guests. guests_reads k side p d q lawful fits has; held = held; came = came }
-sectors_agree k (Monitor side) p d q lawful fits has held came =
-    record { drives = λ guests. cc; held = held; came = came }
-sectors_agree k (Running side own why) p d q lawful fits has held came =
-    record { drives = λ guests. cc; held = held; came = came }
-sectors_agree k (Raising side dummy kind) p d q lawful fits has held came =
-    record { drives = λ guests. cc; held = held; came = came }
-sectors_agree k Moving p d q lawful fits has held came = absurd fits.device
+    → HasSectors k s p d q.device.cells → HasBuffers k.image s p d q.device
+    → HasTags p.client.block p.client.demand → HasWholeBuffers p.pool → SectorsAgree s p d q
+sectors_agree k (Guest side) p d q lawful fits has buffers tags whole = record {
+  drives = λ guests. guests_reads k side p d q lawful fits has;
+  held = buffers.held;
+  came = came_agrees k (Guest side) p d q fits has buffers tags whole;
+}
+sectors_agree k (Monitor side) p d q lawful fits has buffers tags whole = record {
+  drives = λ guests. cc;
+  held = buffers.held;
+  came = came_agrees k (Monitor side) p d q fits has buffers tags whole;
+}
+sectors_agree k (Running side own why) p d q lawful fits has buffers tags whole = record {
+  drives = λ guests. cc;
+  held = buffers.held;
+  came = came_agrees k (Running side own why) p d q fits has buffers tags whole;
+}
+sectors_agree k (Raising side dummy kind) p d q lawful fits has buffers tags whole = record {
+  drives = λ guests. cc;
+  held = buffers.held;
+  came = came_agrees k (Raising side dummy kind) p d q fits has buffers tags whole;
+}
+sectors_agree k Moving p d q lawful fits has buffers tags whole = absurd fits.device

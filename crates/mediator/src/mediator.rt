@@ -7,8 +7,8 @@ ghost use Rattle.ata_taskfile.specs.Device.{Device};
 ghost use Rattle.ata_taskfile.specs.Accesses.{Reaches};
 ghost use Rattle.plain_drive.specs.Plain.{Plain};
 ghost use Rattle.plain_drive.specs.Alike.{after_access};
-ghost use Rattle.mon_pool.specs.Region.{buffers_in};
-ghost use Rattle.aoe_client.specs.Asking.{both_ticked, due_tags, next_sent};
+ghost use Rattle.mon_pool.specs.Region.{HasWholeBuffers, buffers_in};
+ghost use Rattle.aoe_client.specs.Asking.{HasTags, both_ticked, due_tags, next_sent};
 ghost use Rattle.aoe_client.specs.Messages.{request_frame};
 ghost use Rattle.guest_view.specs.View.{is_reset};
 ghost use Rattle.monitor_state.specs.Setup.{IsSetup};
@@ -28,14 +28,15 @@ ghost use Rattle.monitor_events.specs.Shown.{HasComeTo};
 ghost use Rattle.mediator.specs.declared.emitting.TheConstants.{MOST_DUE};
 ghost use Rattle.mediator.specs.Mediator.{FitsAtPowerOn, FitsDrive, IsAtPowerOn, IsFit, IsStill, client_of, parts_of, state_of, with_client};
 ghost use Rattle.mediator.specs.Emitted.{GivesTurn};
-ghost use Rattle.mediator.specs.Couples.{Couples, KeepsAll, KeepsAlong, StandsAtPowerOn, line_of};
+ghost use Rattle.mediator.specs.Couples.{Couples, KeepsAll, KeepsAlong, KeepsHeard, StandsAtPowerOn, line_of};
 
 use crate::emitting::{push, push_asked};
 use crate::restarting::restart;
-use aoe_client::tags_are_due_until_they_are_sent;
+use aoe_client::{a_slot_has_a_blocks_tags, buffers_outlast, tags_are_due_until_they_are_sent};
 use aoe_frame::Frame;
 use ata_taskfile::{Access, Answer, Ports, Step, Stepped};
 use bm_dma::GuestMemory;
+use mon_pool::a_pool_is_whole;
 use monitor_access::accessed;
 use monitor_events::{heard, stepped};
 use monitor_state::{
@@ -175,6 +176,7 @@ impl Mediator {
         ensures reached { (origin : Device) → Reaches origin (P.device ports.old)
             → Reaches origin (P.device ports.new) }
     {
+        buffers_are_whole(&self.parts);
         let state = mem::replace(&mut self.state, State::Moving);
         let (state, item) = turned(state, &mut self.parts, ports, memory);
         mem::replace(&mut self.state, state).end(&mut self.parts.pool);
@@ -221,6 +223,7 @@ impl Mediator {
         ensures reached { (origin : Device) → Reaches origin (P.device ports.old)
             → Reaches origin (P.device ports.new) }
     {
+        buffers_are_whole(&self.parts);
         let state = mem::replace(&mut self.state, State::Moving);
         let (state, item) = stepped(state, &mut self.parts, ports, step, changed);
         mem::replace(&mut self.state, state).end(&mut self.parts.pool);
@@ -245,6 +248,7 @@ impl Mediator {
     {
         asks_stay();
         same_asks_keep_the_fit();
+        buffers_outlast();
         self.parts.client.tick();
         push_asked(&self.parts.client, out);
     }
@@ -262,7 +266,7 @@ impl Mediator {
         ensures bytes { out.new.bytes ≡ out.old.bytes }
         ensures heard { IsHeard frame.now (parts_of self.old) (parts_of self.new) }
         ensures state { state_of self.new ≡ state_of self.old }
-        ensures kept { KeepsAll (of_frame frame.now injected) out.old.items.items
+        ensures kept { KeepsHeard (of_frame frame.now injected) frame.now out.old.items.items
             out.new.items.items self.old self.new }
         ensures fits { (d : Device) → FitsDrive self.old d → FitsDrive self.new d }
         ensures fit { IsFit self.new }
@@ -288,6 +292,7 @@ impl Mediator {
         asks_stay();
         same_asks_keep_the_fit();
         tags_are_due_until_they_are_sent();
+        buffers_outlast();
         self.parts.client.next_send()
     }
 
@@ -300,4 +305,13 @@ impl Mediator {
         state.end(&mut parts.pool);
         parts.end();
     }
+}
+
+// A slot asks for a block's tags, and the pool's block has the bytes of all its buffers.
+fn buffers_are_whole(parts: &Parts)
+    ensures tags { HasTags parts.now.client.block parts.now.client.demand }
+    ensures whole { HasWholeBuffers parts.now.pool }
+{
+    a_slot_has_a_blocks_tags(&parts.client);
+    a_pool_is_whole(&parts.pool);
 }

@@ -4,8 +4,10 @@ use Rattle.plain_drive.specs.Alike.{after_access}
 use Rattle.streaming.specs.Lines.{of_access}
 use Rattle.streaming.proofs.Untold.{none_due}
 use Rattle.monitor_state.specs.Overlaid.{HasSectors}
+use Rattle.monitor_state.specs.Buffered.{HasBuffers}
 use Rattle.monitor_state.specs.Seen.{Shows}
 use Rattle.mediator.proofs.Coupled.{reached_told}
+use Rattle.mediator.proofs.Buffers.{buffers_over_cells}
 use Rattle.mediator.proofs.Sectors.{accessed_sectors}
 use Rattle.mediator.proofs.Standing.{left_as}
 use Rattle.mediator.proofs.mediator.Mediator.access.Goals as goal
@@ -37,6 +39,15 @@ returns-clause-kept g c = λ k q lines couples none.
           call.ensures.reached call.ensures.opening
           (subst (λ t. HasSectors k t c.args.self.now.parts d q.device.cells) (sym c.replace-state.ensures.value)
           couples.sectors)));
+      buffers = left_as (λ t r. HasBuffers k.image t r e (after_access c.args.access.now q).device) _ _ _ _ _
+          c.replace.ensures.after meanwhile c.end.ensures.given
+          (buffers_over_cells k.image call.result.0 call.new.parts e q.device (after_access c.args.access.now q).device
+          (accessed-cells c.args.access.now q.device)
+          (call.ensures.buffers k q.device
+          (subst (λ t. HasSectors k t c.args.self.now.parts d q.device.cells) (sym c.replace-state.ensures.value)
+          couples.sectors)
+          (subst (λ t. HasBuffers k.image t c.args.self.now.parts d q.device) (sym c.replace-state.ensures.value)
+          couples.buffers)));
       told = reached_told (of_access c.args.access.now) q [] d e lines call.ensures.reached
           (none_due d.file e.file call.ensures.commands) couples.told;
     }

@@ -11,7 +11,7 @@ use Rattle.mediator.proofs.Told.{heard_untold}
 use Rattle.mediator.proofs.mediator.Mediator.frame_in.Goals as goal
 
 pub returns-clause-kept : goal.returns-clause-kept
-returns-clause-kept c = λ k d memory q lines given says couples.
+returns-clause-kept c = λ k d memory q lines given says honest couples.
     let before = c.args.out.now.items.items in
     let mark = c.heard.result in
     let same = append_cancel_left before given (item_of mark) (sym says ∙ c.push.ensures.items) in
@@ -20,6 +20,7 @@ returns-clause-kept c = λ k d memory q lines given says couples.
       sectors = subst (λ (r : Parts). HasSectors k c.args.self.now.state r d q.device.cells)
           (sym c.heard.ensures.heard.others)
           (client_sectors k c.args.self.now.state c.args.self.now.parts _ _ d q.device.cells couples.sectors);
+      buffers = c.heard.ensures.buffers k.image c.args.self.now.state d q.device c.requires.fit honest couples.buffers;
       told = unmoved_told (of_frame c.args.frame.now c.args.injected) q given d lines
           (ap commands_in same ∙ heard_untold mark c.heard.ensures.unmarked) couples.told;
     }

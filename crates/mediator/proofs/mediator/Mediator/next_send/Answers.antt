@@ -1,3 +1,8 @@
+use Rattle.std.proofs.Common.{sym, subst}
+use Rattle.aoe_client.specs.Asking.{Asking}
+use Rattle.aoe_client.specs.Buffers.{BothHold}
+use Rattle.monitor_state.specs.Buffered.{image_part}
+use Rattle.mediator.proofs.Buffers.{client_buffers}
 use Rattle.mediator.proofs.Coupled.{client_shown}
 use Rattle.mediator.proofs.Sectors.{client_sectors}
 use Rattle.mediator.proofs.Standing.{same_asks}
@@ -21,5 +26,9 @@ returns-clause-kept c = λ k d memory q lines couples.
     let p = c.args.self.now.parts in record {
       shows = client_shown s p c.next_send.new.self d memory q couples.shows;
       sectors = client_sectors k s p c.next_send.new.self p.pool d q.device.cells couples.sectors;
+      buffers = client_buffers k.image s p c.next_send.new.self d q.device
+          (subst (λ (x : Asking). BothHold (image_part k.image) x p.pool) (sym c.next_send.ensures.after)
+          (c.buffers_outlast.ensures.sending (image_part k.image) p.pool p.client couples.buffers.asked))
+          couples.buffers;
       told = couples.told;
     }

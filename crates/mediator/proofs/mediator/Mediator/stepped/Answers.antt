@@ -12,10 +12,12 @@ use Rattle.streaming.proofs.Untold.{none_due}
 use Rattle.monitor_state.specs.Fits.{Fits}
 use Rattle.monitor_state.specs.GoesOn.{GoesOn}
 use Rattle.monitor_state.specs.Overlaid.{HasSectors}
+use Rattle.monitor_state.specs.Buffered.{HasBuffers}
 use Rattle.monitor_state.specs.Seen.{Shows}
 use Rattle.monitor_events.specs.Shown.{HasComeTo}
 use Rattle.mediator.specs.declared.mediator.Mediator.{Mediator}
 use Rattle.mediator.proofs.Coupled.{along_kept, reached_told}
+use Rattle.mediator.proofs.Buffers.{stepped_buffers_at}
 use Rattle.mediator.proofs.Sectors.{stepped_sectors_at}
 use Rattle.mediator.proofs.Standing.{left_as}
 use Rattle.mediator.proofs.Told.{step_untold, told_commands}
@@ -42,7 +44,7 @@ returns-clause-kept g c = λ old now at come.
     let call = of_step c.args.step c.args.changed in
     along_kept call m n old.device e old.memory now.memory told [] before c.push.new.out.items.items
     (c.push.ensures.items ∙ ap (λ (xs : List Item). before ++ xs) (sym (append-nil (item_of told)))) come.lawful
-    come.fits
+    come.fits c.buffers_are_whole.ensures.tags c.buffers_are_whole.ensures.whole
     (left_as (λ t r. GoesOn m.state m.parts old.device old.memory (item_of told) t r e now.memory) _ _ _ _ _
     c.replace.ensures.after meanwhile c.end.ensures.given
     (subst (λ t. GoesOn t m.parts old.device old.memory (item_of told) c.stepped-state.result.0
@@ -59,6 +61,15 @@ returns-clause-kept g c = λ old now at come.
     (subst (λ t. HasComeTo t m.parts c.args.step c.args.changed old now) (sym c.replace-state.ensures.value) come)
     (subst (λ t. Shows t m.parts old.device old.memory q) (sym c.replace-state.ensures.value) shows)
     (subst (λ t. HasSectors k t m.parts old.device q.device.cells) (sym c.replace-state.ensures.value) has)))
+    (λ k q shows sectors has.
+    left_as (λ t r. HasBuffers k.image t r e (planned (item_of told) q).device) _ _ _ _ _ c.replace.ensures.after
+    meanwhile c.end.ensures.given
+    (stepped_buffers_at k.image c.replace-state.result c.stepped-state.result.0 m.parts c.stepped-state.new.parts
+    c.args.step c.args.changed old now d e told q at c.stepped-state.ensures.stays c.stepped-state.ensures.rests
+    c.stepped-state.ensures.parts c.stepped-state.ensures.device c.stepped-state.ensures.plan
+    (subst (λ t. HasComeTo t m.parts c.args.step c.args.changed old now) (sym c.replace-state.ensures.value) come)
+    (subst (λ t. Shows t m.parts old.device old.memory q) (sym c.replace-state.ensures.value) shows)
+    (subst (λ t. HasBuffers k.image t m.parts old.device q.device) (sym c.replace-state.ensures.value) has)))
     (λ q lines given same before_told.
     reached_told call q given d e lines c.stepped-state.ensures.reached
     (ap commands_in same ∙ told_commands told [] ∙ ap command_told c.stepped-state.ensures.plan

@@ -1,5 +1,6 @@
-use Rattle.std.proofs.Common.{refl}
-use Rattle.aoe_client.specs.Asking.{due_tags}
+use Rattle.std.proofs.Common.{refl, sym, subst}
+use Rattle.aoe_client.specs.Asking.{Asking, due_tags}
+use Rattle.aoe_client.specs.Buffers.{BothHold}
 use Rattle.streaming.specs.Lines.{of_tick}
 use Rattle.streaming.specs.Monitor.{asked_items}
 use Rattle.mediator.proofs.Coupled.{client_kept}
@@ -24,3 +25,5 @@ returns-clause-kept c =
     let tags = due_tags (c.tick.new.self) in
     client_kept of_tick c.args.self.now _ _ (asked_items tags) c.args.out.now.items.items
     c.push_asked.new.out.items.items refl c.push_asked.ensures.items (asked_commands tags)
+    (λ source has. subst (λ (x : Asking). BothHold source x c.args.self.now.parts.pool) (sym c.tick.ensures.after)
+    (c.buffers_outlast.ensures.ticks source c.args.self.now.parts.pool c.args.self.now.parts.client has))

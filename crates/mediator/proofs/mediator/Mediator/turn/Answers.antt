@@ -9,10 +9,12 @@ use Rattle.streaming.specs.Monitor.{asked_items, item_of}
 use Rattle.monitor_state.specs.Fits.{Fits}
 use Rattle.monitor_state.specs.GoesOn.{GoesOn}
 use Rattle.monitor_state.specs.Overlaid.{HasSectors}
+use Rattle.monitor_state.specs.Buffered.{HasBuffers}
 use Rattle.monitor_state.specs.Seen.{Shows}
 use Rattle.mediator.specs.declared.mediator.Mediator.{Mediator}
 use Rattle.mediator.proofs.Coupled.{along_kept, reached_told}
-use Rattle.mediator.proofs.Sectors.{turned_sectors}
+use Rattle.mediator.proofs.Buffers.{buffers_over_cells}
+use Rattle.mediator.proofs.Sectors.{turned_cells, turned_sectors}
 use Rattle.mediator.proofs.Standing.{left_as}
 use Rattle.mediator.proofs.Told.{told_commands}
 use Rattle.mediator.proofs.mediator.Mediator.turn.Goals as goal
@@ -40,6 +42,7 @@ returns-clause-kept g c =
     c.push_asked.new.out.items.items
     (c.push_asked.ensures.items ∙ ap (λ (xs : List Item). xs ++ asked_items tags) c.push.ensures.items
     ∙ append_assoc before (item_of told) (asked_items tags)) (g.met.P.Ports.lawful c.args.ports.now) c.requires.fits
+    c.buffers_are_whole.ensures.tags c.buffers_are_whole.ensures.whole
     (left_as (λ t r. GoesOn m.state m.parts d c.args.memory.now (item_of told) t r e c.turned-state.new.memory)
     _ _ _ _ _ c.replace.ensures.after meanwhile c.end.ensures.given
     (subst (λ t. GoesOn t m.parts d c.args.memory.now (item_of told) c.turned-state.result.0 c.turned-state.new.parts e
@@ -53,6 +56,18 @@ returns-clause-kept g c =
     c.turned-state.ensures.plan c.turned-state.ensures.steps
     (subst (λ t. Shows t m.parts d c.args.memory.now q) (sym c.replace-state.ensures.value) shows)
     (subst (λ t. HasSectors k t m.parts d q.device.cells) (sym c.replace-state.ensures.value) has)))
+    (λ k q shows sectors has.
+    let before_sectors = subst (λ t. HasSectors k t m.parts d q.device.cells) (sym c.replace-state.ensures.value)
+    sectors in
+    left_as (λ t r. HasBuffers k.image t r e (planned (item_of told) q).device) _ _ _ _ _ c.replace.ensures.after
+    meanwhile c.end.ensures.given
+    (buffers_over_cells k.image c.turned-state.result.0 c.turned-state.new.parts e q.device
+    (planned (item_of told) q).device
+    (turned_cells c.replace-state.result m.parts d c.args.memory.now told q c.turned-state.ensures.plan
+    c.turned-state.ensures.steps
+    (subst (λ t. Shows t m.parts d c.args.memory.now q) (sym c.replace-state.ensures.value) shows))
+    (c.turned-state.ensures.buffers k q.device before_sectors
+    (subst (λ t. HasBuffers k.image t m.parts d q.device) (sym c.replace-state.ensures.value) has))))
     (λ q lines given same.
     reached_told of_turn q given d e lines c.turned-state.ensures.reached
     (ap commands_in same ∙ told_commands told tags ∙ c.turned-state.ensures.commands))
