@@ -6,3 +6,4 @@ pub mod Acting
 pub mod Sending
 pub mod Deploying
 pub mod Marked
+pub mod Starting

@@ -14,9 +14,11 @@ ghost use Rattle.streaming.specs.Network.{handed_to_server};
 ghost use Rattle.streaming.specs.Built.{is_built};
 ghost use Rattle.streaming.specs.World.{HandsSectors, WorldEvent, started, watched_over};
 ghost use Rattle.mediator.specs.declared.mediator.Mediator.{Mediator as MediatorOf};
-ghost use Rattle.mediator.specs.Mediator.{IsFit};
+ghost use Rattle.mediator.specs.Couples.{StandsAtPowerOn};
+ghost use Rattle.mediator.specs.Mediator.{IsFit, parts_of};
 ghost use Rattle.world.specs.Acting.{IsAlone};
 ghost use Rattle.world.specs.Conveying.{NeedsSectors};
+ghost use Rattle.world.specs.Coupled.{StandsBeside};
 ghost use Rattle.monitor_state.specs.Setup.{IsSetup};
 ghost use Rattle.world.specs.Faults.{FailsAtStart, FailsByHost};
 ghost use Rattle.world.specs.Deployed.{IsSound, IsSound-prop, watched_in};
@@ -97,6 +99,10 @@ impl World {
             All (λ sector. length sector ≡ SECTOR_BYTES) world.scene.drive.kept.durable) }
         ensures disk { IfOk result (λ world. IfTold ((H.outside host.old).told Disk)
             (λ bytes. world.scene.drive.kept.durable ≡ sectors_in setup.now.area.sectors bytes)) }
+
+        // A monitor stands for the plain drive that begins with what a guest finds on the disk.
+        ensures coupled { IfOk result (λ world. IfSome world.mediator
+            (StandsBeside setup.now.area setup.now.id world.scene.drive)) }
         ensures fault { FailsAtStart result (H.outside host.old) (H.outside host.new) }
         ensures bytes { SameBytes (H.outside host.old) (H.outside host.new) }
         ensures looked { KeepsLooked (H.outside host.old) (H.outside host.new) }
@@ -213,6 +219,8 @@ fn monitor_over(alloc: Global, setup: &Setup) -> Result<Option<Mediator>, NoMemo
         → IsSound m (powered_on cells setup.now.area.sectors)) }
     ensures watched { IfOk result (λ m. watched_in m
         ≡ watched_over setup.now.area.block setup.now.area.image) }
+    ensures stands { IfOk result (λ m. IfSome m (λ n. ((parts_of n).area ≡ setup.now.area)
+        × ((parts_of n).id ≡ setup.now.id) × StandsAtPowerOn n)) }
 {
     if setup.area.image == 0 {
         return Ok(None);
