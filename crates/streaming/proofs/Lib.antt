@@ -16,3 +16,6 @@ pub mod Whole
 pub mod AllSent
 pub mod Opened
 pub mod Asked
+pub mod Sourced
+pub mod OpenTags
+pub mod AskCounts

@@ -7,3 +7,7 @@ pub mod Monitor
 pub mod World
 pub mod Built
 pub mod Lines
+pub mod Sources
+pub mod Open
+pub mod Helpful
+pub mod Asks

@@ -4,11 +4,12 @@
 //! `specs/Lists.antt` says what the two lists hold. Then `specs/Trace.antt`, a drive that a monitor reaches,
 //! `specs/Monitor.antt`, one event of the monitor, with its client in `specs/Client.antt` and its lines in
 //! `specs/Told.antt`, and `specs/World.antt`, one event of the whole and a run of it. `specs/Lines.antt` says what the
-//! calls of a monitor told so far, and that the command in hand was.
+//! calls of a monitor told so far, and that the command in hand was, and `specs/Sources.antt` where the sectors came
+//! from that a guest was given.
 //!
 //! The functions are laws that show what the definitions mean: `events` has those of one event, `course` those of a
-//! whole course of the network, `runs` those of a whole run, `image` those of what the server looks at, and `limits`
-//! the numbers behind them. `docs/network.md` has the same in words.
+//! whole course of the network, `runs` those of a whole run, `sources` those of where sectors came from, `image` those
+//! of what the server looks at, and `limits` the numbers behind them. `docs/network.md` has the same in words.
 //!
 //! It has no tests of its own: those of `world` and `worked_runs` try its rules over whole runs.
 
@@ -19,6 +20,7 @@ mod events;
 mod image;
 mod limits;
 mod runs;
+mod sources;
 
 pub use course::{a_report_has_one_course, each_list_holds_its_own, no_list_outgrows_its_room};
 pub use events::{
@@ -38,3 +40,4 @@ pub use runs::{
     a_taken_frame_was_asked_for, each_due_tag_is_sent, ready_is_told_once,
     without_a_monitor_the_drive_runs_alone,
 };
+pub use sources::{what_has_come_stays, what_was_read_stays_read};
