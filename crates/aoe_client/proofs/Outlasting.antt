@@ -11,7 +11,7 @@ use Rattle.aoe_client.specs.declared.client.Slot.{Slot}
 use Rattle.aoe_client.specs.declared.client.Slot.TheVariants.{Demand, Background}
 use Rattle.aoe_client.specs.Fetching.{Fetching, asked_for, due_again, first_tag, tag_sent, ticked}
 use Rattle.aoe_client.specs.Asking.{Asking, first_due, then_sent, next_sent, both_ticked, with_slot}
-use Rattle.aoe_client.specs.Buffers.{BothHold, Holds}
+use Rattle.aoe_client.specs.Buffers.{AsksOn, BothAskOn, BothHold, Holds}
 
 get_sent : (tags : List TagState) (k i : ℕ) → slice_get (slice_set tags k Unanswered) i ≡ Some Answered
     → slice_get tags i ≡ Some Answered
@@ -35,6 +35,44 @@ get_due : (count i : ℕ) → slice_get (replicate count Due) i ≡ Some Answere
 get_due zero i is = cc
 get_due (suc count) zero is = cc
 get_due (suc count) (suc i) is = get_due count i is
+
+sent_on : (tag : Option ℕ) (s : Option Fetching) → AsksOn s (option_map (tag_sent tag) s)
+sent_on tag None = refl
+sent_on None (Some f) = (refl, refl, λ i is. is)
+sent_on (Some tag) (Some f) = (
+  ap (λ n. f.block * n) (length-set f.tags (tag - first_tag f) Unanswered),
+  length-set f.tags (tag - first_tag f) Unanswered,
+  get_sent f.tags (tag - first_tag f),
+)
+
+again_on : (f : Fetching) (old : Bool) → AsksOn (Some f)
+    (Some (cond old (record f { age = 0; tags = map due_again f.tags }) (record f { age = f.age + 1 })))
+again_on f true = (
+  ap (λ n. f.block * n) (length-map f.tags due_again),
+  length-map f.tags due_again,
+  get_again f.tags,
+)
+again_on f false = (refl, refl, λ i is. is)
+
+ticked_on : (s : Option Fetching) → AsksOn s (option_map ticked s)
+ticked_on None = refl
+ticked_on (Some f) = again_on f (f.age + 1 == RESEND_AGE)
+
+on_itself : (s : Option Fetching) → AsksOn s s
+on_itself None = refl
+on_itself (Some f) = (refl, refl, λ i is. is)
+
+then_on : (tag : Option ℕ) (s : Option Fetching) → AsksOn s (then_sent tag s)
+then_on None s = sent_on (first_due s) s
+then_on (Some tag) s = on_itself s
+
+-- a tag that is sent is not answered by that
+pub on_sending : (c : Asking) → BothAskOn c (next_sent c)
+on_sending c = (sent_on (first_due c.demand) c.demand, then_on (first_due c.demand) c.background)
+
+-- nor is one by a tick
+pub on_ticks : (c : Asking) → BothAskOn c (both_ticked c)
+on_ticks c = (ticked_on c.demand, ticked_on c.background)
 
 module _ (source : ℕ → List ℕ) (pool : Region) where
   sent_holds : (tag : Option ℕ) (s : Option Fetching) → Holds source s pool

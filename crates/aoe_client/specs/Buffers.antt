@@ -1,5 +1,5 @@
 -- What the buffers hold, tag by tag.
-use Rattle.std.specs.Prelude.{ℕ, zero, suc, ◌≡◌, ◌+◌, ◌*◌, List, [], ◌++◌, take, slice_get, Option, Some, None}
+use Rattle.std.specs.Prelude.{ℕ, zero, suc, ◌≡◌, ◌+◌, ◌*◌, List, [], ◌++◌, length, take, slice_get, Option, Some, None}
 use Rattle.mon_pool.specs.Region.{Held, Region, leased_bytes}
 use Rattle.aoe_client.specs.declared.client.Heard.{Heard}
 use Rattle.aoe_client.specs.declared.client.Heard.TheVariants.{Took, Ignored}
@@ -18,6 +18,17 @@ Holds source (Some f) pool =
 -- both slots' buffers hold it
 abbrev pub BothHold : (ℕ → List ℕ) → Asking → Region → Type 0
 BothHold source c pool = Holds source c.demand pool × Holds source c.background pool
+
+-- a slot goes on to ask for the same tags, none of which is answered that wasn't
+abbrev pub AsksOn : Option Fetching → Option Fetching → Type 0
+AsksOn None new = new ≡ None
+AsksOn (Some f) None = ⊥
+AsksOn (Some f) (Some g) = (first_tag g ≡ first_tag f) × (length g.tags ≡ length f.tags)
+    × ((i : ℕ) → slice_get g.tags i ≡ Some Answered → slice_get f.tags i ≡ Some Answered)
+
+-- so do both slots
+abbrev pub BothAskOn : Asking → Asking → Type 0
+BothAskOn old new = AsksOn old.demand new.demand × AsksOn old.background new.background
 
 -- a source gives these two sectors for the tag for which a frame was taken
 abbrev pub SourceGives : (ℕ → List ℕ) → List ℕ → Heard → Type 0

@@ -1,18 +1,18 @@
 //! Laws of the client: what the buffers hold outlasts every call that hears no frame, and what they hold of the
 //! server's replies is the image's.
 
-ghost use Rattle.std.specs.Prelude.{◌≡◌, ◌*◌, ℕ, List, None, Some, drop, take};
+ghost use Rattle.std.specs.Prelude.{◌≡◌, ◌*◌, ◌+◌, ◌≤◌, ℕ, List, None, Some, drop, take};
 ghost use Rattle.std.specs.List.{range_with_len};
 ghost use Rattle.bm_host.specs.Outside.{bytes_at};
 ghost use Rattle.image_server.specs.Serving.{IsReply};
 ghost use Rattle.mon_pool.specs.Region.{Held, Region, leased_bytes};
 ghost use Rattle.aoe_client.specs.declared.client.Slot.{Slot as SlotOf};
 ghost use Rattle.aoe_client.specs.Asking.{Asking, HasTags, both_ticked, due_tags, next_sent, with_slot};
-ghost use Rattle.aoe_client.specs.Buffers.{BothHold, IsFetched};
+ghost use Rattle.aoe_client.specs.Buffers.{BothAskOn, BothHold, IsFetched};
 ghost use Rattle.aoe_client.specs.Fetching.{asked_for, due_of};
 ghost use Rattle.aoe_client.specs.Messages.{Answers, sectors_carried};
 
-use crate::{Client, PART_BYTES, Slot};
+use crate::{Client, PART_BYTES, PART_SECTORS, Slot};
 
 /// What a source gives, the buffers hold while tags are sent and ticks go by, and while a slot is asked in or freed: a
 /// block that is asked for has no answered tag yet.
@@ -28,12 +28,21 @@ pub fn buffers_outlast()
         BothHold source c pool → BothHold source (with_slot slot None c) pool }
 {}
 
+/// Sending and ticks answer no tag: each slot goes on to ask for what it asked for.
+pub fn only_a_frame_answers_a_tag()
+    ensures sending { (c : Asking) → BothAskOn c (next_sent c) }
+    ensures ticks { (c : Asking) → BothAskOn c (both_ticked c) }
+{}
+
 /// A frame that the server sent over an image, in reply to whatever frame, has the two sectors of the image for the tag
-/// that it answers.
+/// that it answers: the image has these.
 pub fn the_servers_sectors_are_the_images()
     ensures sectors { (sectors : ℕ) (image asked bytes : List ℕ) (tag : ℕ) →
         IsReply sectors image asked (Some bytes) → Answers bytes tag →
         sectors_carried bytes ≡ bytes_at (PART_BYTES * tag) PART_BYTES image }
+    ensures within { (sectors : ℕ) (image asked bytes : List ℕ) (tag : ℕ) →
+        IsReply sectors image asked (Some bytes) → Answers bytes tag →
+        PART_SECTORS * tag + PART_SECTORS ≤ sectors }
 {}
 
 /// What a slot asks for has as many tags as a block has.

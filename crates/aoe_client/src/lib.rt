@@ -20,6 +20,7 @@ mod tests;
 pub use client::{Client, Full, Heard, Slot};
 pub use laws::{
     a_fetched_block_is_the_images, a_slot_has_a_blocks_tags, buffers_outlast,
-    tags_are_due_until_they_are_sent, the_servers_sectors_are_the_images,
+    only_a_frame_answers_a_tag, tags_are_due_until_they_are_sent,
+    the_servers_sectors_are_the_images,
 };
 pub use tags::{PART_BYTES, PART_SECTORS, RESEND_AGE, TagState};

@@ -53,6 +53,9 @@ pub fn scatter(view: &mut View, memory: &mut GuestMemory, bytes: &[u8], base: u6
         ≡ record f { phase = at_position (position_of view.new.file.phase) f.phase } }
     ensures least { sector_in view.old.file.phase ≤ sector_in view.new.file.phase }
     ensures most { sector_in view.new.file.phase ≤ end }
+
+    // No more steps than sectors of the piece are left.
+    ensures count { sector_in view.old.file.phase + result ≤ end }
     ensures fits { (sectors : ℕ) → FitsView view.old sectors → FitsView view.new sectors }
     ensures size { length memory.new ≡ length memory.old }
 {
@@ -91,6 +94,7 @@ fn move_sectors(
     } }
     ensures least { done ≤ position_of view.new.file.phase }
     ensures most { sector_in view.new.file.phase ≤ end }
+    ensures count { order.first + done + result ≤ end }
     ensures fits { (sectors : ℕ) → FitsView view.old sectors → FitsView view.new sectors }
     ensures size { length memory.new ≡ length memory.old }
 {
