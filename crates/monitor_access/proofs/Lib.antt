@@ -6,3 +6,5 @@ pub mod Viewed
 pub mod Seen
 pub mod Opening
 pub mod Buffers
+pub mod Sources
+pub mod Requests

@@ -36,7 +36,7 @@ idle_where Idle absent takes = refl
 idle_where (Busy order done) absent takes = cc
 idle_where (Ready order done left) absent takes = cc
 
-rests_idle : (f : TaskFile) → shows_rest f ≡ true → f.phase ≡ Idle
+pub rests_idle : (f : TaskFile) → shows_rest f ≡ true → f.phase ≡ Idle
 rests_idle f rests = idle_where f.phase (selects_absent f) (taken_at_rest f ∙ ap not rests)
 
 -- the drive was at rest, and its interrupt was acknowledged

@@ -12,6 +12,8 @@ ghost use Rattle.monitor_state.specs.Fits.{Fits, IsBetweenEvents};
 ghost use Rattle.monitor_state.specs.Buffered.{KeepsBuffers};
 ghost use Rattle.monitor_state.specs.Overlaid.{OpeningGoesOn};
 ghost use Rattle.monitor_state.specs.Seen.{Shows};
+ghost use Rattle.monitor_state.specs.Requests.{AccessKeepsRequests};
+ghost use Rattle.monitor_state.specs.Sourced.{AccessKeepsSources};
 ghost use Rattle.monitor_access.specs.Marks.{mark_due, mark_over, TakesNone};
 ghost use Rattle.monitor_access.specs.Parts.{parts_after, GoesOnHolding, KeepsOthers};
 ghost use Rattle.monitor_access.specs.Seen.{IsAnswered, IsShown};
@@ -65,6 +67,12 @@ pub fn accessed<P: Ports>(
     // The buffers go on to hold what the plain drive has there.
     ensures buffers { KeepsBuffers state parts.old (P.device ports.old)
         result.0 parts.new (P.device ports.new) }
+
+    // What is there for the guest goes on to have its source, and where a command is taken nothing is there.
+    ensures sources { AccessKeepsSources access.now state parts.old (P.device ports.old)
+        result.0 parts.new (P.device ports.new) }
+    ensures requests { AccessKeepsRequests access.now state parts.old (P.device ports.old)
+        result.0 parts.new }
     ensures commands { TakesNone (P.device ports.old).file (P.device ports.new).file }
     ensures parts { parts.new ≡ parts_after result.0 parts.old }
     ensures others { KeepsOthers parts.old parts.new }
@@ -100,6 +108,10 @@ fn guest<P: Ports>(
         ≡ mark_due (State.Guest side) parts.old (P.device ports.old) access.now }
     ensures buffers { GoesOnHolding (State.Guest side) parts.old (P.device ports.old)
         result.0 parts.new (P.device ports.new) }
+    ensures sources { AccessKeepsSources access.now (State.Guest side) parts.old (P.device ports.old)
+        result.0 parts.new (P.device ports.new) }
+    ensures requests { AccessKeepsRequests access.now (State.Guest side) parts.old (P.device ports.old)
+        result.0 parts.new }
     ensures commands { TakesNone (P.device ports.old).file (P.device ports.new).file }
     ensures parts { parts.new ≡ parts_after result.0 parts.old }
     ensures others { KeepsOthers parts.old parts.new }
@@ -133,6 +145,10 @@ fn guest_other<P: Ports>(
         ≡ mark_due (State.Guest side) parts.old (P.device ports.old) access.now }
     ensures buffers { GoesOnHolding (State.Guest side) parts.old (P.device ports.old)
         result.0 parts.new (P.device ports.new) }
+    ensures sources { AccessKeepsSources access.now (State.Guest side) parts.old (P.device ports.old)
+        result.0 parts.new (P.device ports.new) }
+    ensures requests { AccessKeepsRequests access.now (State.Guest side) parts.old (P.device ports.old)
+        result.0 parts.new }
     ensures commands { TakesNone (P.device ports.old).file (P.device ports.new).file }
     ensures parts { parts.new ≡ parts_after result.0 parts.old }
     ensures others { KeepsOthers parts.old parts.new }
@@ -164,6 +180,10 @@ fn guest_command<P: Ports>(
         ≡ mark_due (State.Guest side) parts.old (P.device ports.old) access.now }
     ensures buffers { GoesOnHolding (State.Guest side) parts.old (P.device ports.old)
         result.0 parts.new (P.device ports.new) }
+    ensures sources { AccessKeepsSources access.now (State.Guest side) parts.old (P.device ports.old)
+        result.0 parts.new (P.device ports.new) }
+    ensures requests { AccessKeepsRequests access.now (State.Guest side) parts.old (P.device ports.old)
+        result.0 parts.new }
     ensures commands { TakesNone (P.device ports.old).file (P.device ports.new).file }
     ensures parts { parts.new ≡ parts_after result.0 parts.old }
     ensures others { KeepsOthers parts.old parts.new }
@@ -198,6 +218,10 @@ fn taken_for<P: Ports>(
         ≡ mark_due (State.Guest side) parts.old (P.device ports.old) access.now }
     ensures buffers { GoesOnHolding (State.Guest side) parts.old (P.device ports.old)
         result.0 parts.new (P.device ports.new) }
+    ensures sources { AccessKeepsSources access.now (State.Guest side) parts.old (P.device ports.old)
+        result.0 parts.new (P.device ports.new) }
+    ensures requests { AccessKeepsRequests access.now (State.Guest side) parts.old (P.device ports.old)
+        result.0 parts.new }
     ensures commands { TakesNone (P.device ports.old).file (P.device ports.new).file }
     ensures parts { parts.new ≡ parts_after result.0 parts.old }
     ensures others { KeepsOthers parts.old parts.new }
@@ -233,6 +257,10 @@ fn resting<P: Ports>(
         result.0 parts.new (P.device ports.new) }
     ensures buffers { GoesOnHolding (State.Monitor side) parts.old (P.device ports.old)
         result.0 parts.new (P.device ports.new) }
+    ensures sources { AccessKeepsSources access.now (State.Monitor side) parts.old (P.device ports.old)
+        result.0 parts.new (P.device ports.new) }
+    ensures requests { AccessKeepsRequests access.now (State.Monitor side) parts.old (P.device ports.old)
+        result.0 parts.new }
     ensures commands { TakesNone (P.device ports.old).file (P.device ports.new).file }
     ensures parts { parts.new ≡ parts_after result.0 parts.old }
     ensures others { KeepsOthers parts.old parts.new }
@@ -271,6 +299,10 @@ fn running<P: Ports>(
         result.0 parts.new (P.device ports.new) }
     ensures buffers { GoesOnHolding (State.Running side own purpose) parts.old (P.device ports.old)
         result.0 parts.new (P.device ports.new) }
+    ensures sources { AccessKeepsSources access.now (State.Running side own purpose) parts.old (P.device ports.old)
+        result.0 parts.new (P.device ports.new) }
+    ensures requests { AccessKeepsRequests access.now (State.Running side own purpose) parts.old (P.device ports.old)
+        result.0 parts.new }
     ensures commands { TakesNone (P.device ports.old).file (P.device ports.new).file }
     ensures parts { parts.new ≡ parts_after result.0 parts.old }
     ensures others { KeepsOthers parts.old parts.new }
@@ -308,6 +340,10 @@ fn raising<P: Ports>(
         ≡ mark_due (State.Raising side dummy plan) parts.old (P.device ports.old) access.now }
     ensures buffers { GoesOnHolding (State.Raising side dummy plan) parts.old (P.device ports.old)
         result.0 parts.new (P.device ports.new) }
+    ensures sources { AccessKeepsSources access.now (State.Raising side dummy plan) parts.old (P.device ports.old)
+        result.0 parts.new (P.device ports.new) }
+    ensures requests { AccessKeepsRequests access.now (State.Raising side dummy plan) parts.old (P.device ports.old)
+        result.0 parts.new }
     ensures commands { TakesNone (P.device ports.old).file (P.device ports.new).file }
     ensures parts { parts.new ≡ parts_after result.0 parts.old }
     ensures others { KeepsOthers parts.old parts.new }

@@ -2,6 +2,8 @@ pub mod Planned
 pub mod Ended
 pub mod Raised
 pub mod Unseen
+pub mod Sources
+pub mod SourcesHeard
 pub mod GuestsSteps
 pub mod Frames
 pub mod Buffers

@@ -12,7 +12,10 @@ ghost use Rattle.monitor_state.specs.Buffered.{HasBuffers, image_part};
 ghost use Rattle.monitor_state.specs.Fits.{Fits, FitsParts};
 ghost use Rattle.monitor_state.specs.SameAsks.{HaveSameAsks};
 ghost use Rattle.monitor_state.specs.Seen.{Shows};
+ghost use Rattle.monitor_state.specs.Sourced.{HasSources};
 ghost use Rattle.streaming.specs.Client.{TakesFor, TakesFrame};
+ghost use Rattle.streaming.specs.Lines.{Line};
+ghost use Rattle.streaming.specs.Sources.{HasCome};
 ghost use Rattle.monitor_events.specs.Hearing.{IsHeard, mark_of};
 
 use aoe_client::Heard;
@@ -47,6 +50,11 @@ pub fn heard(parts: &mut Parts, frame: &Frame, injected: bool) -> Option<Item>
         → ((tag : ℕ) → TakesFor tag frame.now parts.old.client
         → image_part image tag ≡ sectors_carried frame.now)
         → HasBuffers image s parts.old d g → HasBuffers image s parts.new d g }
+
+    // Where the tag that the frame is taken for has come, what is there for the guest goes on to have its source.
+    ensures sources { (s : StateOf) (d : Device) (lines : List Line) →
+        ((tag : ℕ) → TakesFor tag frame.now parts.old.client → HasCome tag lines)
+        → HasSources s parts.old d lines → HasSources s parts.new d lines }
 {
     asks_stay();
     same_asks_keep_the_fit();

@@ -15,6 +15,7 @@ ghost use Rattle.monitor_state.specs.State.{view_of};
 ghost use Rattle.monitor_state.specs.Hand.{HasInHand};
 ghost use Rattle.monitor_state.specs.Fits.{Fits, FitsPlan, IsBetweenEvents};
 ghost use Rattle.monitor_state.specs.GoesOn.{GoesOn};
+ghost use Rattle.monitor_state.specs.Sourced.{KeepsSources};
 ghost use Rattle.streaming.specs.Monitor.{item_of};
 ghost use Rattle.monitor_events.specs.Shown.{HasComeTo};
 ghost use Rattle.monitor_events.specs.Stepping.{device_after_step, ends_dummy, is_resting_state, item_planned, parts_after_step, parts_planned, plan_due_of, plan_of_dummy, plan_of_step, view_after_step, view_planned};
@@ -52,6 +53,11 @@ pub fn stepped<P: Ports>(
         → HasComeTo state parts.old step changed old now
         → GoesOn state parts.old old.device old.memory (item_of result.1) result.0 parts.new
         (P.device ports.new) now.memory }
+
+    // A step that is told gives the guest no sector without a source.
+    ensures sources { (old now : Plain) → now.device ≡ P.device ports.old
+        → HasComeTo state parts.old step changed old now
+        → KeepsSources state parts.old old.device result.1 result.0 parts.new (P.device ports.new) }
 
     ensures fits { Fits result.0 parts.new (P.device ports.new) }
     ensures between { IsBetweenEvents result.0 (P.device ports.new) }
@@ -104,6 +110,11 @@ fn raised<P: Ports>(
         → HasComeTo (Raising side dummy plan) parts.old kind effect old now
         → GoesOn (Raising side dummy plan) parts.old old.device old.memory (item_of result.1)
         result.0 parts.new (P.device ports.new) now.memory }
+    ensures sources { (kind : StepOf) (effect : SteppedOf) (old now : Plain) →
+        now.device ≡ P.device ports.old
+        → HasComeTo (Raising side dummy plan) parts.old kind effect old now
+        → KeepsSources (Raising side dummy plan) parts.old old.device result.1
+        result.0 parts.new (P.device ports.new) }
 
     ensures fits { Fits result.0 parts.new (P.device ports.new) }
     ensures between { IsBetweenEvents result.0 (P.device ports.new) }

@@ -26,3 +26,6 @@ pub mod OverlaidSteps
 pub mod Openings
 pub mod OpeningJobs
 pub mod CutSectors
+pub mod SourcesStay
+pub mod Behind
+pub mod Waiting

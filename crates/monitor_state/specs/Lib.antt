@@ -15,3 +15,5 @@ pub mod Sectors
 pub mod GoesOn
 pub mod Overlaid
 pub mod Buffered
+pub mod Sourced
+pub mod Requests

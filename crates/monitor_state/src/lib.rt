@@ -31,6 +31,7 @@ mod parts;
 mod sectors;
 mod seen;
 mod setup;
+mod sourced;
 mod starting;
 mod state;
 #[cfg(test)]
@@ -59,6 +60,7 @@ pub use seen::{
     a_plain_drive_can_be_seen, destages_keep_what_is_seen, unseen_steps_keep_what_is_seen,
 };
 pub use setup::{LEAST_POOL, MOST_POOL, Setup};
+pub use sourced::{sources_stay, what_is_asked_was_asked_for};
 pub use starting::begun_parts_fit;
 pub use state::{Plan, Purpose, State};
 pub use std::alloc::AllocError as NoMemory;

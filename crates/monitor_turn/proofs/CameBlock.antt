@@ -86,7 +86,8 @@ module _ (image : List (List ℕ)) (whole : (s : ℕ) → s < length image → l
             ∙ (tag_sectors i (omega (arith, odd, below))).1 ∙ ap (λ s. sector_at s image) place
       ]
 
-all_answered : (tags : List TagState) (i : ℕ) → list_all is_answered tags ≡ true → i < length tags
+-- a tag of a block that has come is answered
+pub all_answered : (tags : List TagState) (i : ℕ) → list_all is_answered tags ≡ true → i < length tags
     → slice_get tags i ≡ Some Answered
 all_answered [] i all below = absurd (omega arith)
 all_answered (Due ∷ tags) i all below = cc
@@ -94,7 +95,8 @@ all_answered (Unanswered ∷ tags) i all below = cc
 all_answered (Answered ∷ tags) zero all below = refl
 all_answered (Answered ∷ tags) (suc i) all below = all_answered tags i all (omega arith)
 
-emptiness : (area : Area) (filled : List Bool) (s : ℕ) → is_empty_at area filled s ≡ true
+-- an empty sector is one of the image's
+pub emptiness : (area : Area) (filled : List Bool) (s : ℕ) → is_empty_at area filled s ≡ true
     → (s < area.image) × (has filled (block_at area s) ≡ false)
 emptiness area filled s empty = (grind (arith, nat_tests), grind (arith, nat_tests))
 
@@ -103,7 +105,7 @@ is_empty : (area : Area) (filled : List Bool) (s : ℕ) → s < area.image → h
 is_empty area filled s inside lacks = grind (arith, nat_tests)
 
 -- each sector of an empty block lies in one
-in_empty_block : (area : Area) (filled : List Bool) (sector b s : ℕ) → IsSuitable area
+pub in_empty_block : (area : Area) (filled : List Bool) (sector b s : ℕ) → IsSuitable area
     → empty_block area filled sector ≡ Some b → b * area.block ≤ s → s < b * area.block + area.block
     → is_empty_at area filled s ≡ true
 in_empty_block area filled sector b s suitable is above below =
@@ -125,6 +127,11 @@ in_empty_block area filled sector b s suitable is above below =
 below_reserved : (area : Area) → IsSuitable area → area.image ≤ reserved_of area
 below_reserved area suitable = grind arith
 
+-- a block's first tag is that of its first sector
+pub tags_place : (b block tags : ℕ) → block ≡ 2 * tags → 2 * (b * tags) ≡ b * block
+tags_place b block tags two =
+    let swap : 2 * (b * tags) ≡ b * (2 * tags) = omega arith in swap ∙ ap (λ k. b * k) (sym two)
+
 -- a block that has come of an empty one has a plain drive's sectors
 pub block_came : (image : List (List ℕ)) (area : Area) (filled : List Bool) (cells : List Cell) (g : Device)
     (pool : Region) (f : Fetching) (sector : ℕ)
@@ -140,8 +147,7 @@ block_came image area filled cells g pool f sector sized values suitable room wh
     let bytes = leased_bytes f.lease pool in
     let two : block ≡ 2 * tags = omega (arith, suitable.blocked, count) in
     let n = s - f.block * block in
-    let first : 2 * (f.block * tags) ≡ f.block * block =
-    (let swap : 2 * (f.block * tags) ≡ f.block * (2 * tags) = omega arith in swap ∙ ap (λ k. f.block * k) (sym two)) in
+    let first = tags_place f.block block tags two in
     let is = in_empty_block area filled sector f.block s suitable empty above below in
     let inside = emptiness area filled s is in
     let low : s < reserved_of area = omega (arith, inside.0, below_reserved area suitable) in

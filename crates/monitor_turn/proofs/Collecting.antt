@@ -219,6 +219,24 @@ piece_in_block g sector end came p request area holds block = λ s from before.
     subst (λ (n : ℕ). IsBlockOf g p.pool n (Some came)) area.client block in
     of s (omega (arith, holds.base, from)) (omega (arith, holds.base, holds.room, area.room, before))
 
+-- the guest sees the same plain drive once what has come is held
+pub some_shows : (side : MonitorSide) (redirect : Redirect) (done : ℕ) (came : Option (ℕ × Held)) (p : Parts)
+    (d : Device) (memory : List ℕ) (q : Plain) → Fits (Monitor side) p d
+    → (view_held side).file.phase ≡ Busy (Good (request_of redirect)) done → p.hand.redirect ≡ Some redirect
+    → Shows (Monitor side) p d memory q
+    → let r = holding came ((request_of redirect).first + done) (end_of_read (request_of redirect)) p in
+    Shows (Monitor side) r d memory q
+some_shows side redirect done None p d memory q fits at redirected shows = shows
+some_shows side redirect done (Some came) p d memory q fits at redirected shows =
+    let v = view_held side in
+    let request = request_of redirect in
+    let r = holding (Some came) (request.first + done) (end_of_read request) p in
+    let hand : IsRedirected v p request done =
+    redirected_by v p redirect request done at redirected fits.parts.state.2 in
+    same_seen (Monitor side) (Monitor side) p r d d memory q refl refl
+    (λ matters. absurd (let no = read_unmattered v.file.phase request done at hand.read in cc)) refl
+    (same_refused v.file.phase p r refl refl ∙ shows.served) shows
+
 some_seen : (side : MonitorSide) (redirect : Redirect) (done : ℕ) (came : Option (ℕ × Held)) (p : Parts) (d : Device)
     (memory : List ℕ) (q : Plain) → Fits (Monitor side) p d
     → (view_held side).file.phase ≡ Busy (Good (request_of redirect)) done
@@ -232,16 +250,13 @@ some_seen side redirect done (Some came) p d memory q fits at redirected is show
     let request = request_of redirect in
     let s = request.first + done in
     let end = end_of_read request in
-    let r = holding (Some came) s end p in
     let hand : IsRedirected v p request done =
     redirected_by v p redirect request done at redirected fits.parts.state.2 in
     let of = came_of p.client.demand came is in
     let wanted : IsWanted p request s of.0 =
     subst (λ (o : Option Fetching). IfSome o (IsWanted p request s)) of.1 hand.asked in
     let holds = holds_came request s of.0 came p fits.parts.area wanted of.2 in (
-      same_seen (Monitor side) (Monitor side) p r d d memory q refl refl
-          (λ matters. absurd (let no = read_unmattered v.file.phase request done at hand.read in cc)) refl
-          (same_refused v.file.phase p r refl refl ∙ shows.served) shows,
+      some_shows side redirect done (Some came) p d memory q fits at redirected shows,
       record {
         drives = λ no. absurd cc;
         held = piece_in_block q.device s end came p request fits.parts.area holds
@@ -250,7 +265,7 @@ some_seen side redirect done (Some came) p d memory q fits at redirected is show
       },
     )
 
--- the guest sees the same plain drive once what has come is held, and its sectors agree
+-- and its sectors agree
 pub collected_seen : (side : MonitorSide) (redirect : Redirect) (order : Request) (done : ℕ) (p : Parts) (d : Device)
     (memory : List ℕ) (q : Plain) → Fits (Monitor side) p d → (view_held side).file.phase ≡ Busy (Good order) done
     → p.hand.redirect ≡ Some redirect → Shows (Monitor side) p d memory q → SectorsAgree (Monitor side) p d q

@@ -1,5 +1,5 @@
 -- A guest's command in hand, and what the monitor may make of it.
-use Rattle.std.proofs.Common.{◌≡◌, ◌+◌, ◌<◌, ◌&&◌, ◌==◌, ℕ, Bool, true, false, not, if◌then◌else◌, nat_lt, List, Ok, Err, Option, Some, None, refl, sym, ap, ◌∙◌, subst, arith}
+use Rattle.std.proofs.Common.{◌≡◌, ◌+◌, ◌<◌, ◌&&◌, ◌==◌, ℕ, true, false, not, List, Option, Some, None, refl, sym, ap, ◌∙◌, subst, arith}
 use Rattle.ata_taskfile.specs.declared.Kind.{Kind}
 use Rattle.ata_taskfile.specs.declared.Kind.TheVariants as kind
 use Rattle.ata_taskfile.specs.declared.Form.{Form}
@@ -7,9 +7,7 @@ use Rattle.ata_taskfile.specs.declared.Request.{Request}
 use Rattle.ata_taskfile.specs.declared.Taken.{Taken}
 use Rattle.ata_taskfile.specs.declared.Taken.TheVariants.{Good}
 use Rattle.ata_taskfile.specs.declared.Phase.TheVariants.{Busy}
-use Rattle.ata_taskfile.specs.declared.Refused.TheVariants.{Abort, NotFound}
-use Rattle.ata_taskfile.specs.Order as orders
-use Rattle.ata_taskfile.specs.Order.{Inputs, Row, inputs, is_accepted, order_in, order_of, row_of, taken}
+use Rattle.ata_taskfile.specs.Order.{Inputs, Row, inputs, order_in, order_of, row_of, taken}
 use Rattle.ata_taskfile.specs.Lawful.{has_count, has_possible_order, is_just_taken, is_possible, moves_in}
 use Rattle.ata_taskfile.specs.Device.{Device}
 use Rattle.schedule_text.specs.declared.Item.{Item}
@@ -21,6 +19,7 @@ use Rattle.fill_bitmap.specs.Bitmap.{Sets}
 use Rattle.io_interpret.specs.declared.class.Class.{Class}
 use Rattle.io_interpret.specs.declared.class.Class.TheVariants.{Local, Redirected, FillFirst, Settle, Reserved, Other}
 use Rattle.io_interpret.specs.Class.{class_of_kind, class_of_request, reaches_reserved}
+use Rattle.plain_drive.specs.Plain.{Plain}
 use Rattle.port_lease.specs.declared.view.View.{View}
 use Rattle.port_lease.specs.declared.monitor_side.MonitorSide.{MonitorSide}
 use Rattle.port_lease.specs.Sides.{view_held}
@@ -32,29 +31,22 @@ use Rattle.monitor_state.specs.declared.parts.Parts.{Parts}
 use Rattle.monitor_state.specs.Classes.{is_drives_class}
 use Rattle.monitor_state.specs.Fits.{Fits, FitsArea}
 use Rattle.monitor_state.specs.GoesOn.{GoesOn}
+use Rattle.monitor_state.specs.Seen.{Shows}
 use Rattle.monitor_state.specs.Hand.{HasInHand, HoldsSector, IsEmptyHanded, IsWanted, WorksOn}
 use Rattle.monitor_state.proofs.Served.{if_none}
 use Rattle.monitor_state.proofs.Shown.{same_refused, same_seen}
+use Rattle.monitor_turn.proofs.Rows.{row_by}
 
 -- the forms of the table's reads are inward
 row_inward : (byte : ℕ) (row : Row) → row_of byte ≡ Some row → row.kind ≡ kind.Read → goes_inward row.form ≡ true
 row_inward byte row is reads = grind arith
 
-taken_by : (accepted late : Bool) (asked request : Request)
-    → taken (if accepted then (if late then Err NotFound else Ok asked) else Err Abort) ≡ Good request → asked ≡ request
-taken_by true true asked request is = absurd cc
-taken_by true false asked request is = cc
-taken_by false late asked request is = absurd cc
-
-order_inward : (row : Option Row) (byte n : ℕ) (i : Inputs) (request : Request) → row_of byte ≡ row
-    → taken (order_in row i n) ≡ Good request → request.kind ≡ kind.Read → goes_inward request.form ≡ true
-order_inward None byte n i request is order reads = absurd cc
-order_inward (Some row) byte n i request is order reads =
-    let asked = orders.request_of row i in
-    let same = taken_by (is_accepted row.kind row.extended i) (nat_lt n (asked.first + asked.count)) asked request
-    order in
-    ap (λ (r : Request). goes_inward r.form) (sym same)
-    ∙ row_inward byte row is (ap (λ (r : Request). r.kind) same ∙ reads)
+order_inward : (byte n : ℕ) (i : Inputs) (request : Request) → taken (order_in (row_of byte) i n) ≡ Good request
+    → request.kind ≡ kind.Read → goes_inward request.form ≡ true
+order_inward byte n i request order reads =
+    let by = row_by (row_of byte) i n request order in
+    ap (λ (r : Request). goes_inward r.form) (sym by.2)
+    ∙ row_inward byte by.0 by.1 (ap (λ (r : Request). r.kind) by.2 ∙ reads)
 
 -- a class of Redirected is a read's that is on no reserved sector
 redirected_kind : (k : Kind) (request : Request) (area : Area) (sets : Sets)
@@ -113,7 +105,7 @@ may_redirect v request area sets sectors fits at class =
     cc in (
       record {
         kind = k.0;
-        inward = order_inward (row_of v.file.command) v.file.command sectors (inputs v.file) request refl same k.0;
+        inward = order_inward v.file.command sectors (inputs v.file) request same k.0;
         some = possible_some request.kind request.form request.count k.0 possible;
       },
       k.1,
@@ -202,13 +194,18 @@ turned_over redirect p q d e s told turned = record {
   };
 }
 
--- and what the guest sees goes on over them as over those without
+-- what the guest sees over parts without a redirect it sees over them with one
+pub redirect_shows : (redirect : Redirect) (side : MonitorSide) (p : Parts) (d : Device) (memory : List ℕ) (q : Plain)
+    → Shows (Monitor side) p d memory q → Shows (Monitor side) (with_redirect redirect p) d memory q
+redirect_shows redirect side p d memory q shows =
+    let r = with_redirect redirect p in
+    same_seen (Monitor side) (Monitor side) p r d d memory q refl refl (λ _. refl) refl
+    (same_refused (view_held side).file.phase p r refl refl ∙ shows.served) shows
+
+-- and it goes on over them as over those without
 pub goes_on_over : (redirect : Redirect) (side : MonitorSide) (p r : Parts) (d e : Device) (memory left : List ℕ)
     (items : List Item) (t : State) → GoesOn (Monitor side) (with_redirect redirect p) d memory items t r e left
     → GoesOn (Monitor side) p d memory items t r e left
-goes_on_over redirect side p r d e memory left items t goes =
-    let q = with_redirect redirect p in
-    λ g shows agrees. goes g
-    (same_seen (Monitor side) (Monitor side) p q d d memory g refl refl (λ _. refl) refl
-    (same_refused (view_held side).file.phase p q refl refl ∙ shows.served) shows)
+goes_on_over redirect side p r d e memory left items t goes = λ g shows agrees.
+    goes g (redirect_shows redirect side p d memory g shows)
     record { drives = λ no. absurd cc; held = agrees.held; came = agrees.came }

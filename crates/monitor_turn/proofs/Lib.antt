@@ -19,3 +19,9 @@ pub mod OpeningLeft
 pub mod OpeningSectors
 pub mod OpeningEnds
 pub mod PieceBuffer
+pub mod Rows
+pub mod Sources
+pub mod Went
+pub mod StepSources
+pub mod CameSources
+pub mod Requests

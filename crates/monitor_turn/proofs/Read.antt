@@ -130,7 +130,7 @@ readable_on_disk : (request_end first count sectors : ℕ) → first + count ≤
 readable_on_disk request_end first count sectors within below = grind (arith, within, below)
 
 -- and it is of sectors on the disk
-read_on_disk : (side : MonitorSide) (redirect : Redirect) (first count : ℕ) (p : Parts) (d : Device)
+pub read_on_disk : (side : MonitorSide) (redirect : Redirect) (first count : ℕ) (p : Parts) (d : Device)
     → Fits (Monitor side) p d → IsWorkedOn (view_held side) p redirect (position_of (view_held side).file.phase)
     → IsReadable (request_of redirect) (view_held side) p.area p.bitmap.filled (range_of p.held) first count
     → is_on_disk (job.Read first count) d.sectors ≡ true

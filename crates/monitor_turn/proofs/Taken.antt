@@ -1,5 +1,5 @@
 -- A drive that the monitor has taken.
-use Rattle.std.proofs.Common.{◌≡◌, ◌≤◌, ℕ, true, false, List, refl, sym, ap, ◌∙◌, subst, arith}
+use Rattle.std.proofs.Common.{◌≡◌, ◌≤◌, ℕ, true, false, List, Option, refl, sym, ap, ◌∙◌, subst, arith}
 use Rattle.ata_taskfile.specs.declared.Phase.TheVariants.{Idle}
 use Rattle.ata_taskfile.specs.declared.task_file.TaskFile.{TaskFile}
 use Rattle.ata_taskfile.specs.TaskFile.{masks_line}
@@ -7,6 +7,7 @@ use Rattle.ata_taskfile.specs.Data.{is_wanted}
 use Rattle.ata_taskfile.specs.Device.{Device}
 use Rattle.ata_taskfile.specs.Lawful.{end_of, is_in_reset, is_just_taken, HasTwoBytes}
 use Rattle.plain_drive.specs.Alike.{block_matters}
+use Rattle.plain_drive.specs.Plain.{Plain}
 use Rattle.port_lease.specs.declared.guest_side.GuestSide.{GuestSide}
 use Rattle.port_lease.specs.declared.monitor_side.MonitorSide.{MonitorSide}
 use Rattle.port_lease.specs.Free.{is_free, shows_rest}
@@ -22,7 +23,10 @@ use Rattle.monitor_state.specs.Drive.{RestsIn}
 use Rattle.monitor_state.specs.Fits.{Fits}
 use Rattle.monitor_state.specs.GoesOn.{GoesOn}
 use Rattle.monitor_state.specs.Hand.{HasInHand}
-use Rattle.monitor_state.specs.Seen.{is_refused_in}
+use Rattle.monitor_state.specs.Seen.{Shows, is_refused_in}
+use Rattle.monitor_state.specs.Sourced.{HasSources, KeepsSources}
+use Rattle.streaming.specs.Lines.{Line}
+use Rattle.streaming.specs.Sources.{has_read}
 use Rattle.monitor_state.proofs.Shown.{same_seen}
 use Rattle.monitor_turn.proofs.Told.{free_idle}
 
@@ -66,15 +70,38 @@ taken_fits old new p d fits free pairs file alone lawful =
       sectors = fits.sectors;
     }
 
--- what the guest sees goes on from the monitor's side as it does from the guest's
+-- what the guest sees on its side it sees on the monitor's
+taken_shows : (old : GuestSide) (new : MonitorSide) (p : Parts) (d took : Device) (memory : List ℕ) (q : Plain)
+    → is_free d.file ≡ true → (view_held new).file ≡ record d.file { command = (view_kept old).file.command }
+    → IsSame (seen_on_guest_side (view_kept old) d) (seen_on_monitor_side (view_held new) took)
+    → Shows (Guest old) p d memory q → Shows (Monitor new) p took memory q
+taken_shows old new p d took memory q free file same shows =
+    let idle = ap (λ (f : TaskFile). f.phase) file ∙ free_idle d.file free in
+    same_seen (Guest old) (Monitor new) p p d took memory q same.file same.bus
+    (λ matters. let no = ap block_matters idle in absurd cc) refl (ap (λ phase. is_refused_in phase p) idle) shows
+
+-- and it goes on from there as from its own
 pub taken_goes_on : (old : GuestSide) (new : MonitorSide) (p r : Parts) (d took e : Device) (memory left : List ℕ)
     (items : List Item) (t : State) → is_free d.file ≡ true
     → (view_held new).file ≡ record d.file { command = (view_kept old).file.command }
     → IsSame (seen_on_guest_side (view_kept old) d) (seen_on_monitor_side (view_held new) took)
     → GoesOn (Monitor new) p took memory items t r e left → GoesOn (Guest old) p d memory items t r e left
-taken_goes_on old new p r d took e memory left items t free file same goes =
-    let idle = ap (λ (f : TaskFile). f.phase) file ∙ free_idle d.file free in
-    λ q shows agrees. goes q
-    (same_seen (Guest old) (Monitor new) p p d took memory q same.file same.bus
-    (λ matters. let no = ap block_matters idle in absurd cc) refl (ap (λ phase. is_refused_in phase p) idle) shows)
+taken_goes_on old new p r d took e memory left items t free file same goes = λ q shows agrees.
+    goes q (taken_shows old new p d took memory q free file same shows)
     record { drives = λ no. absurd cc; held = agrees.held; came = agrees.came }
+
+-- and so do the sources of what it is given
+pub taken_sources : (old : GuestSide) (new : MonitorSide) (p r : Parts) (d took e : Device) (told : Option Item)
+    (t : State) → is_free d.file ≡ true
+    → (view_held new).file ≡ record d.file { command = (view_kept old).file.command }
+    → IsSame (seen_on_guest_side (view_kept old) d) (seen_on_monitor_side (view_held new) took)
+    → KeepsSources (Monitor new) p took told t r e → KeepsSources (Guest old) p d told t r e
+taken_sources old new p r d took e told t free file same keeps =
+    let taken : (lines : List Line) → HasSources (Guest old) p d lines → HasSources (Monitor new) p took lines =
+    λ lines has. record { held = has.held; demand = has.demand; background = has.background; read = tt } in
+    record {
+      loads = λ lines memory q shows has.
+          keeps.loads lines memory q (taken_shows old new p d took memory q free file same shows) (taken lines has);
+      keeps = λ lines told_in has. keeps.keeps lines told_in (taken lines has);
+      spares = λ read. absurd (let no = ap has_read (free_idle d.file free) in cc);
+    }

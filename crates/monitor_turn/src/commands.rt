@@ -12,6 +12,8 @@ ghost use Rattle.port_lease.specs.Sides.{has_own, view_held};
 ghost use Rattle.port_lease.specs.View.{IsLawfulView};
 ghost use Rattle.overlay.specs.Steps.{leaves_sectors};
 ghost use Rattle.monitor_state.specs.Buffered.{KeepsBuffers};
+ghost use Rattle.monitor_state.specs.Requests.{KeepsRequests};
+ghost use Rattle.monitor_state.specs.Sourced.{KeepsSources};
 ghost use Rattle.monitor_state.specs.State.{is_opened};
 ghost use Rattle.monitor_state.specs.Classes.{class_of_order, is_drives_class};
 ghost use Rattle.monitor_state.specs.Fits.{Fits, FitsPlan};
@@ -53,6 +55,9 @@ pub(crate) fn command<P: Ports>(
     ensures memory { length memory.new ≡ length memory.old }
     ensures buffers { KeepsBuffers (State.Monitor side) parts.old (P.device ports.old)
         result.0 parts.new (P.device ports.new) }
+    ensures sources { KeepsSources (State.Monitor side) parts.old (P.device ports.old)
+        result.1 result.0 parts.new (P.device ports.new) }
+    ensures requests { KeepsRequests (State.Monitor side) parts.old result.0 parts.new }
     ensures rest { P.rest ports.new ≡ P.rest ports.old }
     ensures reached { (origin : Device) → Reaches origin (P.device ports.old)
         → Reaches origin (P.device ports.new) }
@@ -91,6 +96,9 @@ fn by_class<P: Ports>(
     ensures memory { length memory.new ≡ length memory.old }
     ensures buffers { KeepsBuffers (State.Monitor side) parts.old (P.device ports.old)
         result.0 parts.new (P.device ports.new) }
+    ensures sources { KeepsSources (State.Monitor side) parts.old (P.device ports.old)
+        result.1 result.0 parts.new (P.device ports.new) }
+    ensures requests { KeepsRequests (State.Monitor side) parts.old result.0 parts.new }
     ensures rest { P.rest ports.new ≡ P.rest ports.old }
     ensures reached { (origin : Device) → Reaches origin (P.device ports.old)
         → Reaches origin (P.device ports.new) }
@@ -127,6 +135,9 @@ fn first_redirected<P: Ports>(
     ensures memory { length memory.new ≡ length memory.old }
     ensures buffers { KeepsBuffers (State.Monitor side) parts.old (P.device ports.old)
         result.0 parts.new (P.device ports.new) }
+    ensures sources { KeepsSources (State.Monitor side) parts.old (P.device ports.old)
+        result.1 result.0 parts.new (P.device ports.new) }
+    ensures requests { KeepsRequests (State.Monitor side) parts.old result.0 parts.new }
     ensures rest { P.rest ports.new ≡ P.rest ports.old }
     ensures reached { (origin : Device) → Reaches origin (P.device ports.old)
         → Reaches origin (P.device ports.new) }
@@ -155,6 +166,9 @@ pub(crate) fn raise<P: Ports>(
         → leaves_sectors (view_held side).file.phase ≡ true }
     ensures buffers { KeepsBuffers (State.Monitor side) parts.now (P.device ports.old)
         result.0 parts.now (P.device ports.new) }
+    ensures sources { KeepsSources (State.Monitor side) parts.now (P.device ports.old)
+        result.1 result.0 parts.now (P.device ports.new) }
+    ensures requests { KeepsRequests (State.Monitor side) parts.now result.0 parts.now }
     ensures rest { P.rest ports.new ≡ P.rest ports.old }
     ensures reached { (origin : Device) → Reaches origin (P.device ports.old)
         → Reaches origin (P.device ports.new) }
@@ -186,6 +200,9 @@ fn given<P: Ports>(side: MonitorSide, order: Taken, ports: &mut P) -> (State, Op
         → leaves_sectors (view_held side).file.phase ≡ true }
     ensures buffers { (p : PartsOf) → KeepsBuffers (State.Monitor side) p (P.device ports.old)
         result.0 p (P.device ports.new) }
+    ensures sources { (p : PartsOf) → KeepsSources (State.Monitor side) p (P.device ports.old)
+        result.1 result.0 p (P.device ports.new) }
+    ensures requests { (p : PartsOf) → KeepsRequests (State.Monitor side) p result.0 p }
     ensures rest { P.rest ports.new ≡ P.rest ports.old }
     ensures reached { (origin : Device) → Reaches origin (P.device ports.old)
         → Reaches origin (P.device ports.new) }

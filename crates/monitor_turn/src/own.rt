@@ -12,6 +12,8 @@ ghost use Rattle.own_pio.specs.declared.job.OwnJob.{OwnJob as JobOf};
 ghost use Rattle.own_pio.specs.Job.{command_of, count_of, job_order};
 ghost use Rattle.monitor_state.specs.State.{is_opened};
 ghost use Rattle.monitor_state.specs.Buffered.{KeepsBuffers};
+ghost use Rattle.monitor_state.specs.Requests.{KeepsRequests};
+ghost use Rattle.monitor_state.specs.Sourced.{KeepsSources};
 ghost use Rattle.monitor_state.specs.Fits.{Fits, FitsArea};
 ghost use Rattle.monitor_state.specs.GoesOn.{GoesOn};
 ghost use Rattle.monitor_state.specs.Overlaid.{OpeningGoesOn};
@@ -64,6 +66,9 @@ pub(crate) fn polled<P: Ports>(
         parts.old (P.device ports.old) result.0 parts.new (P.device ports.new) }
     ensures buffers { KeepsBuffers (State.Running side own purpose)
         parts.old (P.device ports.old) result.0 parts.new (P.device ports.new) }
+    ensures sources { KeepsSources (State.Running side own purpose) parts.old (P.device ports.old)
+        result.1 result.0 parts.new (P.device ports.new) }
+    ensures requests { KeepsRequests (State.Running side own purpose) parts.old result.0 parts.new }
     ensures rest { P.rest ports.new ≡ P.rest ports.old }
     ensures reached { (origin : Device) → Reaches origin (P.device ports.old)
         → Reaches origin (P.device ports.new) }
@@ -96,6 +101,11 @@ fn polled_opening<P: Ports>(
         parts.old (P.device ports.old) result.0 parts.new (P.device ports.new) }
     ensures buffers { KeepsBuffers (State.Running side own Purpose.Opening)
         parts.old (P.device ports.old) result.0 parts.new (P.device ports.new) }
+    ensures sources { KeepsSources (State.Running side own Purpose.Opening)
+        parts.old (P.device ports.old)
+        result.1 result.0 parts.new (P.device ports.new) }
+    ensures requests { KeepsRequests (State.Running side own Purpose.Opening)
+        parts.old result.0 parts.new }
     ensures rest { P.rest ports.new ≡ P.rest ports.old }
     ensures reached { (origin : Device) → Reaches origin (P.device ports.old)
         → Reaches origin (P.device ports.new) }
@@ -186,6 +196,11 @@ fn polled_piece<P: Ports>(
     ensures opened { is_opened parts.old ≡ true }
     ensures buffers { KeepsBuffers (State.Running side own (Purpose.Piece first count lease))
         parts.old (P.device ports.old) result.0 parts.new (P.device ports.new) }
+    ensures sources { KeepsSources (State.Running side own (Purpose.Piece first count lease))
+        parts.old (P.device ports.old)
+        result.1 result.0 parts.new (P.device ports.new) }
+    ensures requests { KeepsRequests (State.Running side own (Purpose.Piece first count lease))
+        parts.old result.0 parts.new }
     ensures rest { P.rest ports.new ≡ P.rest ports.old }
     ensures reached { (origin : Device) → Reaches origin (P.device ports.old)
         → Reaches origin (P.device ports.new) }
@@ -236,6 +251,9 @@ pub(crate) fn opening_next<P: Ports>(
         result.0 parts.now (P.device ports.new) }
     ensures buffers { KeepsBuffers (State.Monitor side) parts.now (P.device ports.old)
         result.0 parts.now (P.device ports.new) }
+    ensures sources { KeepsSources (State.Monitor side) parts.now (P.device ports.old)
+        result.1 result.0 parts.now (P.device ports.new) }
+    ensures requests { KeepsRequests (State.Monitor side) parts.now result.0 parts.now }
     ensures rest { P.rest ports.new ≡ P.rest ports.old }
     ensures reached { (origin : Device) → Reaches origin (P.device ports.old)
         → Reaches origin (P.device ports.new) }

@@ -17,8 +17,10 @@ ghost use Rattle.redirect.specs.Scatter.{at_position};
 ghost use Rattle.redirect.specs.Meaning.{IsReadable, IsServed};
 ghost use Rattle.redirect.specs.Next.{request_of};
 ghost use Rattle.overlay.specs.Steps.{leaves_sectors};
-ghost use Rattle.monitor_state.specs.State.{is_opened, range_of};
+ghost use Rattle.monitor_state.specs.State.{end_of_piece, is_opened, range_of};
 ghost use Rattle.monitor_state.specs.Buffered.{KeepsBuffers};
+ghost use Rattle.monitor_state.specs.Requests.{KeepsRequests};
+ghost use Rattle.monitor_state.specs.Sourced.{KeepsSources};
 ghost use Rattle.monitor_state.specs.Leases.{AreLeased, leases_of_parts};
 ghost use Rattle.monitor_state.specs.Fits.{Fits, FitsArea, FitsParts};
 ghost use Rattle.monitor_state.specs.GoesOn.{GoesOn};
@@ -63,6 +65,9 @@ pub(crate) fn redirected<P: Ports>(
     ensures memory { length memory.new ≡ length memory.old }
     ensures buffers { KeepsBuffers (State.Monitor side) parts.old (P.device ports.old)
         result.0 parts.new (P.device ports.new) }
+    ensures sources { KeepsSources (State.Monitor side) parts.old (P.device ports.old)
+        result.1 result.0 parts.new (P.device ports.new) }
+    ensures requests { KeepsRequests (State.Monitor side) parts.old result.0 parts.new }
     ensures rest { P.rest ports.new ≡ P.rest ports.old }
     ensures reached { (origin : Device) → Reaches origin (P.device ports.old)
         → Reaches origin (P.device ports.new) }
@@ -126,6 +131,9 @@ fn worked_on<P: Ports>(
     ensures memory { length memory.new ≡ length memory.old }
     ensures buffers { KeepsBuffers (State.Monitor side) parts.old (P.device ports.old)
         result.0 parts.new (P.device ports.new) }
+    ensures sources { KeepsSources (State.Monitor side) parts.old (P.device ports.old)
+        result.1 result.0 parts.new (P.device ports.new) }
+    ensures requests { KeepsRequests (State.Monitor side) parts.old result.0 parts.new }
     ensures rest { P.rest ports.new ≡ P.rest ports.old }
     ensures reached { (origin : Device) → Reaches origin (P.device ports.old)
         → Reaches origin (P.device ports.new) }
@@ -164,6 +172,8 @@ fn ask(parts: &mut Parts, block: u32)
         → AreLeased (leases_of_parts parts.new) parts.new }
     ensures kept { (side : MonitorSideOf) (d : Device) →
         KeepsBuffers (State.Monitor side) parts.old d (State.Monitor side) parts.new d }
+    ensures sources { (side : MonitorSideOf) (d : Device) →
+        KeepsSources (State.Monitor side) parts.old d None (State.Monitor side) parts.new d }
 {
     let lease = parts.take_lease();
     match parts.client.ask(Slot::Demand, block, lease) {
@@ -195,6 +205,9 @@ fn read<P: Ports>(
     ensures client { parts.new.client ≡ parts.old.client }
     ensures buffers { KeepsBuffers (State.Monitor side) parts.old (P.device ports.old)
         result.0 parts.new (P.device ports.new) }
+    ensures sources { KeepsSources (State.Monitor side) parts.old (P.device ports.old)
+        result.1 result.0 parts.new (P.device ports.new) }
+    ensures requests { KeepsRequests (State.Monitor side) parts.old result.0 parts.new }
     ensures rest { P.rest ports.new ≡ P.rest ports.old }
     ensures reached { (origin : Device) → Reaches origin (P.device ports.old)
         → Reaches origin (P.device ports.new) }
@@ -229,6 +242,9 @@ fn offered<P: Ports>(
         (item_of result.1) result.0 parts.now (P.device ports.new) bytes }
     ensures buffers { KeepsBuffers (State.Monitor side) parts.now (P.device ports.old)
         result.0 parts.now (P.device ports.new) }
+    ensures sources { KeepsSources (State.Monitor side) parts.now (P.device ports.old)
+        result.1 result.0 parts.now (P.device ports.new) }
+    ensures requests { KeepsRequests (State.Monitor side) parts.now result.0 parts.now }
     ensures rest { P.rest ports.new ≡ P.rest ports.old }
     ensures reached { (origin : Device) → Reaches origin (P.device ports.old)
         → Reaches origin (P.device ports.new) }
@@ -259,6 +275,9 @@ fn scattered<P: Ports>(
     ensures memory { length memory.new ≡ length memory.old }
     ensures buffers { KeepsBuffers (State.Monitor side) parts.old (P.device ports.old)
         result.0 parts.new (P.device ports.new) }
+    ensures sources { KeepsSources (State.Monitor side) parts.old (P.device ports.old)
+        result.1 result.0 parts.new (P.device ports.new) }
+    ensures requests { KeepsRequests (State.Monitor side) parts.old result.0 parts.new }
     ensures rest { P.rest ports.new ≡ P.rest ports.old }
     ensures reached { (origin : Device) → Reaches origin (P.device ports.old)
         → Reaches origin (P.device ports.new) }
@@ -297,6 +316,8 @@ fn moved(side: &mut MonitorSide, redirect: Redirect, parts: &Parts, memory: &mut
         ≤ sector_in (view_held side.new).file.phase }
     ensures most { sector_in (view_held side.new).file.phase
         ≤ end_of (view_held side.old).file.phase }
+    ensures count { IfSome parts.now.held
+        (λ held. sector_in (view_held side.old).file.phase + result ≤ end_of_piece held) }
     ensures fits { FitsView (view_held side.new) parts.now.area.sectors }
     ensures own { has_own side.new ≡ has_own side.old }
     ensures memory { length memory.new ≡ length memory.old }

@@ -8,6 +8,8 @@ ghost use Rattle.ata_taskfile.specs.Accesses.{Reaches};
 ghost use Rattle.port_lease.specs.Sides.{view_held};
 ghost use Rattle.overlay.specs.Steps.{leaves_sectors};
 ghost use Rattle.monitor_state.specs.Buffered.{KeepsBuffers};
+ghost use Rattle.monitor_state.specs.Requests.{KeepsRequests};
+ghost use Rattle.monitor_state.specs.Sourced.{KeepsSources};
 ghost use Rattle.monitor_state.specs.State.{is_opened};
 ghost use Rattle.monitor_state.specs.Fits.{Fits, IsBetweenEvents};
 ghost use Rattle.monitor_state.specs.GoesOn.{GoesOn};
@@ -36,7 +38,8 @@ use schedule_text::Item;
 /// Steps are told of a reset and of a read alone, which change no sector. A block that is to be obtained is asked of
 /// the client. While opening hasn't ended less is left of it after each turn at which the drive isn't at work, and the
 /// sectors of every plain drive stay those that the deployment gives its guest, also where it ends now. The buffers go
-/// on to hold what the plain drive has there.
+/// on to hold what the plain drive has there. Each step that is told loads or moves a sector with a source, and no
+/// write is given while a read of the guest's is in hand.
 pub fn turned<P: Ports>(
     state: State,
     parts: &mut Parts,
@@ -62,6 +65,9 @@ pub fn turned<P: Ports>(
         result.0 parts.new (P.device ports.new) }
     ensures buffers { KeepsBuffers state parts.old (P.device ports.old)
         result.0 parts.new (P.device ports.new) }
+    ensures sources { KeepsSources state parts.old (P.device ports.old)
+        result.1 result.0 parts.new (P.device ports.new) }
+    ensures requests { KeepsRequests state parts.old result.0 parts.new }
     ensures memory { length memory.new ≡ length memory.old }
     ensures rest { P.rest ports.new ≡ P.rest ports.old }
     ensures reached { (origin : Device) → Reaches origin (P.device ports.old)
@@ -94,6 +100,9 @@ fn taken<P: Ports>(
     ensures memory { length memory.new ≡ length memory.old }
     ensures buffers { KeepsBuffers (State.Guest side) parts.old (P.device ports.old)
         result.0 parts.new (P.device ports.new) }
+    ensures sources { KeepsSources (State.Guest side) parts.old (P.device ports.old)
+        result.1 result.0 parts.new (P.device ports.new) }
+    ensures requests { KeepsRequests (State.Guest side) parts.old result.0 parts.new }
     ensures rest { P.rest ports.new ≡ P.rest ports.old }
     ensures reached { (origin : Device) → Reaches origin (P.device ports.old)
         → Reaches origin (P.device ports.new) }
@@ -126,6 +135,9 @@ fn monitor<P: Ports>(
     ensures memory { length memory.new ≡ length memory.old }
     ensures buffers { KeepsBuffers (State.Monitor side) parts.old (P.device ports.old)
         result.0 parts.new (P.device ports.new) }
+    ensures sources { KeepsSources (State.Monitor side) parts.old (P.device ports.old)
+        result.1 result.0 parts.new (P.device ports.new) }
+    ensures requests { KeepsRequests (State.Monitor side) parts.old result.0 parts.new }
     ensures rest { P.rest ports.new ≡ P.rest ports.old }
     ensures reached { (origin : Device) → Reaches origin (P.device ports.old)
         → Reaches origin (P.device ports.new) }
@@ -154,6 +166,9 @@ fn restarted<P: Ports>(mut side: MonitorSide, parts: &Parts, ports: &mut P) -> (
     ensures unmoved { P.device ports.new ≡ P.device ports.old }
     ensures buffers { KeepsBuffers (State.Monitor side) parts.now (P.device ports.old)
         result.0 parts.now (P.device ports.new) }
+    ensures sources { KeepsSources (State.Monitor side) parts.now (P.device ports.old)
+        result.1 result.0 parts.now (P.device ports.new) }
+    ensures requests { KeepsRequests (State.Monitor side) parts.now result.0 parts.now }
     ensures rest { P.rest ports.new ≡ P.rest ports.old }
     ensures reached { (origin : Device) → Reaches origin (P.device ports.old)
         → Reaches origin (P.device ports.new) }

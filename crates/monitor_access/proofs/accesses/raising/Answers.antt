@@ -7,6 +7,8 @@ use Rattle.monitor_state.specs.declared.parts.Parts.{Parts}
 use Rattle.monitor_state.specs.Seen.{Shows}
 use Rattle.monitor_access.proofs.Buffers.{raising_holds}
 use Rattle.monitor_access.proofs.Viewed.{viewed_shown}
+use Rattle.monitor_access.proofs.Requests.{viewed_requests}
+use Rattle.monitor_access.proofs.Sources.{raising_keeps}
 use Rattle.monitor_access.proofs.accesses.raising.Goals as goal
 
 pub returns-clause-fits : goal.returns-clause-fits
@@ -39,3 +41,17 @@ returns-clause-buffers g c =
     raising_holds (view_held call.new.side).file.phase c.args.side call.new.side c.args.dummy c.args.plan
     c.args.parts.now call.new.parts (g.P.Ports.device c.args.ports.now) (g.P.Ports.device call.new.ports)
     call.ensures.parts
+
+pub returns-clause-sources : goal.returns-clause-sources
+returns-clause-sources g c =
+    let call = c.by_view-answer in
+    raising_keeps c.args.access.now (view_held call.new.side).file.phase c.args.side call.new.side c.args.dummy
+    c.args.plan c.args.parts.now call.new.parts (g.P.Ports.device c.args.ports.now)
+    (g.P.Ports.device call.new.ports) c.requires.fits.parts.state.2 call.ensures.parts
+
+pub returns-clause-requests : goal.returns-clause-requests
+returns-clause-requests g c =
+    let call = c.by_view-answer in
+    let state = c.requires.fits.parts.state in
+    viewed_requests c.args.access.now c.args.side call.new.side c.args.parts.now call.new.parts state.1
+    c.requires.no_reset state.2 call.ensures.accessed call.ensures.parts

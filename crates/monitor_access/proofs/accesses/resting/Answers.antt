@@ -7,6 +7,8 @@ use Rattle.monitor_access.proofs.Buffers.{resting_holds}
 use Rattle.monitor_access.proofs.Opening.{resting_goes_on}
 use Rattle.monitor_access.proofs.Viewed.{viewed_shown}
 use Rattle.monitor_state.specs.declared.state.State.TheVariants.{Monitor}
+use Rattle.monitor_access.proofs.Requests.{viewed_requests}
+use Rattle.monitor_access.proofs.Sources.{resting_keeps}
 use Rattle.monitor_access.proofs.accesses.resting.Goals as goal
 
 pub returns-clause-shown : goal.returns-clause-shown
@@ -38,3 +40,17 @@ returns-clause-buffers g c =
     let call = c.by_view-answer in
     resting_holds (view_held call.new.side).file.phase c.args.side call.new.side c.args.parts.now call.new.parts
     (g.P.Ports.device c.args.ports.now) (g.P.Ports.device call.new.ports) call.ensures.parts
+
+pub returns-clause-sources : goal.returns-clause-sources
+returns-clause-sources g c =
+    let call = c.by_view-answer in
+    resting_keeps c.args.access.now (view_held call.new.side).file.phase c.args.side call.new.side c.args.parts.now
+    call.new.parts (g.P.Ports.device c.args.ports.now) (g.P.Ports.device call.new.ports)
+    c.requires.fits.parts.state.2 call.ensures.parts
+
+pub returns-clause-requests : goal.returns-clause-requests
+returns-clause-requests g c =
+    let call = c.by_view-answer in
+    let state = c.requires.fits.parts.state in
+    viewed_requests c.args.access.now c.args.side call.new.side c.args.parts.now call.new.parts state.1
+    c.requires.no_reset state.2 call.ensures.accessed call.ensures.parts

@@ -7,6 +7,8 @@ use Rattle.guest_view.specs.Seen.{on_monitor_side}
 use Rattle.monitor_state.specs.Seen.{Shows}
 use Rattle.monitor_access.proofs.Commands.{command_answered, command_reads_none, unraised}
 use Rattle.monitor_access.proofs.Taking.{calmed, taken_alike, taken_fits, taken_shown}
+use Rattle.monitor_access.proofs.Requests.{taken_requests}
+use Rattle.monitor_access.proofs.Sources.{taken_keeps}
 use Rattle.monitor_access.proofs.accesses.taken_for.Goals as goal
 
 pub resting-requires-clause-fits : goal.resting-requires-clause-fits
@@ -41,3 +43,21 @@ returns-clause-shown g c = λ memory q shows none.
     (c.resting.ensures.shown memory (calmed q)
     (taken_shown c.args.side c.in-Ok.side c.args.parts.now d (g.P.Ports.device c.take.new.ports) command memory q
     c.requires.rests file bus shows) none)
+
+pub returns-clause-sources : goal.returns-clause-sources
+returns-clause-sources g c =
+    let ok = c.in-Ok.ensures in
+    let command = (view_kept c.access.new.self).file.command in
+    taken_keeps c.args.access.now c.args.side c.in-Ok.side c.resting.result.0 c.args.parts.now c.resting.new.parts
+    (g.P.Ports.device c.args.ports.now) (g.P.Ports.device c.take.new.ports) (g.P.Ports.device c.resting.new.ports)
+    command (ok.file ∙ ap (λ (x : Device). record x.file { command = command }) c.access.ensures.drive)
+    c.resting.ensures.sources
+
+pub returns-clause-requests : goal.returns-clause-requests
+returns-clause-requests g c =
+    let ok = c.in-Ok.ensures in
+    let command = (view_kept c.access.new.self).file.command in
+    taken_requests c.args.access.now c.args.side c.in-Ok.side c.resting.result.0 c.args.parts.now c.resting.new.parts
+    (g.P.Ports.device c.args.ports.now) (g.P.Ports.device c.take.new.ports) command c.requires.rests
+    (ok.file ∙ ap (λ (x : Device). record x.file { command = command }) c.access.ensures.drive)
+    c.resting.ensures.requests

@@ -6,6 +6,7 @@ use Rattle.streaming.specs.Client.{TakesFrame}
 use Rattle.monitor_state.specs.Buffered.{image_part}
 use Rattle.monitor_events.proofs.Buffers.{frame_holds, source_gives}
 use Rattle.monitor_events.proofs.Frames.{heard_asks, marked}
+use Rattle.monitor_events.proofs.SourcesHeard.{heard_sources}
 use Rattle.monitor_events.proofs.hearing.heard.Goals as goal
 
 pub returns-clause-mark : goal.returns-clause-mark
@@ -40,3 +41,9 @@ returns-clause-buffers c = λ image s d g fits gives.
     frame_holds p (record p { client = call.new.self; pool = call.new.pool }) refl call.ensures.others image s d g fits
     (call.ensures.kept (image_part image)
     (source_gives (image_part image) call.result frame (sectors_carried frame) p.client call.ensures.took gives))
+
+pub returns-clause-sources : goal.returns-clause-sources
+returns-clause-sources c = λ s d lines comes has.
+    let call = c.frame_in-what in
+    heard_sources s c.args.parts.now call.new.self call.new.pool call.result d lines call.ensures.after
+    (λ tag took. comes tag ((call.ensures.took tag).0 took)) has

@@ -27,3 +27,6 @@ returns-in_default-clause-turned g c =
           w.in_default.not-Reserved-0
     ] in
     c.given.ensures.turned p r.opened r.fresh gets r.fits
+
+pub returns-in_default-clause-sources : goal.returns-in_default-clause-sources
+returns-in_default-clause-sources g c = c.given.ensures.sources c.args.parts.now

@@ -1,7 +1,10 @@
+use Rattle.std.proofs.Common.{refl}
 use Rattle.port_lease.specs.Sides.{view_held}
 use Rattle.streaming.specs.Monitor.{item_of}
 use Rattle.monitor_turn.proofs.Buffers.{redirect_buffers}
 use Rattle.monitor_turn.proofs.Fresh.{goes_on_over, may_redirect, redirect_fits, turned_over}
+use Rattle.monitor_turn.proofs.Sources.{redirect_sources}
+use Rattle.monitor_turn.proofs.Requests.{begun_requests}
 use Rattle.monitor_turn.proofs.commands.first_redirected.Goals as goal
 
 pub new-requires : goal.new-requires
@@ -29,3 +32,12 @@ returns-clause-shown g c =
 pub returns-clause-buffers : goal.returns-clause-buffers
 returns-clause-buffers g c =
     redirect_buffers c.new.result c.args.side _ c.args.parts.now _ _ _ c.requires.opened c.redirected.ensures.buffers
+
+pub returns-clause-sources : goal.returns-clause-sources
+returns-clause-sources g c =
+    redirect_sources c.new.result c.args.side _ c.args.parts.now _ _ _ _ c.redirected.ensures.sources
+
+pub returns-clause-requests : goal.returns-clause-requests
+returns-clause-requests g c =
+    begun_requests c.args.side _ c.args.parts.now _ _ _ c.requires.phase c.requires.fresh refl
+    c.redirected.ensures.requests

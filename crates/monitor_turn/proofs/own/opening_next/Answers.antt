@@ -9,6 +9,7 @@ use Rattle.own_pio.specs.Job.{job_order}
 use Rattle.own_pio.specs.Kept.{IsDoneSoFar}
 use Rattle.monitor_turn.proofs.Begun.{opening_begun}
 use Rattle.monitor_turn.proofs.OpeningSectors.{begun_sectors}
+use Rattle.monitor_turn.proofs.Sources.{opening_sources}
 use Rattle.monitor_turn.proofs.own.opening_next.Goals as goal
 
 pub returns-clause-turned : goal.returns-clause-turned
@@ -33,3 +34,10 @@ returns-clause-opening g c =
     (subst (λ o. IfSome o (IsOnKept p.opening.area)) c.in-Some.is c.next.ensures.kept) c.sector_is_whole.ensures b.job
     b.left (subst (λ (d : Device). (bytes : List ℕ) → IsDoneSoFar c.in-Some.job 0 bytes bytes d.cells
     (g.P.Ports.device c.begin-own.new.ports)) c.read8.ensures.after b.kept)
+
+pub returns-clause-sources : goal.returns-clause-sources
+returns-clause-sources g c =
+    let p = c.args.parts.now in
+    opening_sources c.args.side _ _ c.in-Some.job _ p (g.P.Ports.device c.args.ports.now) _ c.requires.fits
+    c.requires.opens (subst (λ o. IfSome o (IsOnKept p.opening.area)) c.in-Some.is c.next.ensures.kept)
+    c.job_item.ensures.item

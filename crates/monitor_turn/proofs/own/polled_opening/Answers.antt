@@ -3,12 +3,14 @@ use Rattle.std.proofs.lemmas.List.{length-take-le}
 use Rattle.own_pio.specs.Own.{job_of}
 use Rattle.port_lease.specs.Sides.{has_own}
 use Rattle.monitor_state.specs.declared.parts.Parts.{Parts}
-use Rattle.monitor_state.specs.declared.state.State.TheVariants.{Monitor}
+use Rattle.monitor_state.specs.declared.state.State.TheVariants.{Monitor, Running}
+use Rattle.monitor_state.specs.declared.state.Purpose.TheVariants as purpose
 use Rattle.monitor_state.specs.Fits.{FitsArea}
 use Rattle.monitor_turn.specs.Turned.{HasTurned}
 use Rattle.monitor_turn.proofs.OpeningEnds.{done_sectors, failed_sectors, goes_sectors}
 use Rattle.monitor_turn.proofs.OpeningPolled.{opening_goes, opening_polled}
 use Rattle.monitor_turn.proofs.Polls.{goes, taken_before}
+use Rattle.monitor_turn.proofs.Sources.{opening_ends_sources, untold_over}
 use Rattle.monitor_turn.proofs.own.polled_opening.Goals as goal
 
 pub returns-in-Waiting-clause-turned : goal.returns-in-Waiting-clause-turned
@@ -80,3 +82,22 @@ returns-in-Failed-clause-opening g c =
     (g.P.Ports.device c.args.ports.now) (g.P.Ports.device c.poll.new.ports) _ c.requires.fits
     c.in-Failed.ensures.unseen.cells (ap (λ (x : Parts). x.area) t.ensures.others)
     (ap (λ (x : Parts). x.id) t.ensures.others) t.ensures.area t.ensures.opens t.ensures.buffer
+
+pub returns-in-Waiting-clause-sources : goal.returns-in-Waiting-clause-sources
+returns-in-Waiting-clause-sources g c =
+    untold_over (Running c.args.side c.args.own purpose.Opening)
+    (Running c.poll.new.side c.poll.new.self purpose.Opening) c.args.parts.now _ _ _ refl refl refl (λ lines read. tt)
+
+pub returns-in-Done-clause-sources : goal.returns-in-Done-clause-sources
+returns-in-Done-clause-sources g c =
+    let t = c.opening_told.ensures in
+    opening_ends_sources c.args.side c.poll.new.side c.args.own c.opening_told.result c.args.parts.now
+    c.opening_told.new.parts _ _ (ap (λ (x : Parts). x.area) t.others) (ap (λ (x : Parts). x.held) t.others)
+    (ap (λ (x : Parts). x.client) t.others) t.told
+
+pub returns-in-Failed-clause-sources : goal.returns-in-Failed-clause-sources
+returns-in-Failed-clause-sources g c =
+    let t = c.opening_told-in-Failed.ensures in
+    opening_ends_sources c.args.side c.poll.new.side c.args.own c.opening_told-in-Failed.result c.args.parts.now
+    c.opening_told-in-Failed.new.parts _ _ (ap (λ (x : Parts). x.area) t.others) (ap (λ (x : Parts). x.held) t.others)
+    (ap (λ (x : Parts). x.client) t.others) t.told

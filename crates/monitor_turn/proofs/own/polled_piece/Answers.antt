@@ -1,10 +1,13 @@
 use Rattle.std.proofs.Common.{◌∷◌, ◌&&◌, Bool, refl, sym, ap, ◌∙◌}
 use Rattle.mon_pool.proofs.Leases.{are_of_written}
 use Rattle.port_lease.specs.Sides.{has_own}
+use Rattle.monitor_state.specs.declared.state.State.TheVariants.{Monitor, Running}
+use Rattle.monitor_state.specs.declared.state.Purpose.TheVariants as purpose
 use Rattle.monitor_state.specs.Leases.{leases_of_parts}
 use Rattle.monitor_turn.proofs.Piece.{piece_done, piece_failed, piece_goes}
 use Rattle.monitor_turn.proofs.Polls.{goes, taken_before}
 use Rattle.monitor_turn.proofs.PieceBuffer.{done_buffers, failed_buffers, goes_buffers}
+use Rattle.monitor_turn.proofs.Sources.{done_sources, untold_over}
 use Rattle.monitor_turn.proofs.own.polled_piece.Goals as goal
 
 pub returns-in-Waiting-clause-turned : goal.returns-in-Waiting-clause-turned
@@ -93,3 +96,21 @@ returns-in-Failed-clause-buffers g c = λ k h sectors has.
     failed_buffers k.image c.args.side c.poll.new.side c.args.own c.args.first c.args.count c.args.lease
     c.args.parts.now _ (g.P.Ports.device c.args.ports.now) (g.P.Ports.device c.poll.new.ports) h c.requires.fits
     refl refl has
+
+pub returns-in-Waiting-clause-sources : goal.returns-in-Waiting-clause-sources
+returns-in-Waiting-clause-sources g c =
+    let p = c.args.parts.now in
+    untold_over (Running c.args.side c.args.own (purpose.Piece c.args.first c.args.count c.args.lease))
+    (Running c.poll.new.side c.poll.new.self (purpose.Piece c.args.first c.args.count _)) p _ _ _ refl refl refl
+    (λ lines read. read)
+
+pub returns-in-Done-clause-sources : goal.returns-in-Done-clause-sources
+returns-in-Done-clause-sources g c =
+    rw c.hold.ensures.after
+    (done_sources c.args.side c.poll.new.side c.args.own c.args.first c.args.count c.args.lease _ _ c.args.parts.now _
+    _)
+
+pub returns-in-Failed-clause-sources : goal.returns-in-Failed-clause-sources
+returns-in-Failed-clause-sources g c =
+    untold_over (Running c.args.side c.args.own (purpose.Piece c.args.first c.args.count c.args.lease))
+    (Monitor c.poll.new.side) c.args.parts.now _ _ _ refl refl refl (λ lines read. tt)

@@ -4,6 +4,7 @@ use Rattle.monitor_state.specs.declared.parts.Parts.{Parts}
 use Rattle.monitor_state.specs.Leases.{AreLeased, leases_of_parts}
 use Rattle.monitor_turn.proofs.PieceBuffer.{begun_buffers}
 use Rattle.monitor_turn.proofs.Read.{leased_buffers, leased_room, piece_begun, read_goes}
+use Rattle.monitor_turn.proofs.Sources.{begun_sources}
 use Rattle.monitor_turn.proofs.redirected.read.Goals as goal
 
 pub returns-clause-turned : goal.returns-clause-turned
@@ -46,3 +47,11 @@ returns-clause-buffers g c =
     (λ are. subst (λ (q : Parts). AreLeased (lease ∷ leases_of_parts p) q) t.after
     (t.leased [] (leases_of_parts p) are))
     b.job b.left b.kept)
+
+pub returns-clause-sources : goal.returns-clause-sources
+returns-clause-sources g c =
+    let r = c.requires in
+    let p = c.args.parts.now in
+    rw c.take_lease-lease.ensures.after
+    (begun_sources c.args.side _ _ c.take_lease-lease.result c.args.first c.args.count
+    (leased (first_free p.pool) p.pool) c.args.redirect _ p _ _ r.fits r.worked_on r.readable c.job_item.ensures.item)

@@ -7,6 +7,8 @@ use Rattle.ata_taskfile.specs.declared.Taken.{Taken}
 use Rattle.aoe_client.specs.Asking.{done_in}
 use Rattle.monitor_turn.proofs.Buffers.{collected_buffers}
 use Rattle.monitor_turn.proofs.Collecting.{client_before, collected_fits, collected_seen, turned_before}
+use Rattle.monitor_turn.proofs.CameSources.{collected_sources}
+use Rattle.monitor_turn.proofs.Requests.{collected_requests}
 use Rattle.monitor_turn.proofs.redirected.redirected.Goals as goal
 
 pub worked_on-requires-clause-fits : goal.worked_on-requires-clause-fits
@@ -60,3 +62,26 @@ returns-clause-buffers g c =
     collected_buffers c.args.side c.in-Some.redirect order done _ c.args.parts.now _ _ _ r.fits at c.in-Some.is r.opened
     c.a_pool_is_whole.ensures c.a_slot_has_a_blocks_tags.ensures.demand
     (rw (c.collect.ensures.after, c.from.ensures, c.from-2.ensures) at c.worked_on.ensures.buffers)
+
+pub returns-clause-sources : goal.returns-clause-sources
+returns-clause-sources g c =
+    let order = c.in-Busy-Good-default.order in
+    let done = c.in-Busy-Good-default.done in
+    let good = rw c.in-Busy-Good-default.is at c.in-Busy-Good-default.field-0-is in
+    let at : (view_held c.args.side).file.phase ≡ Busy (Good order) done =
+    ap (λ (v : View). v.file.phase) (sym c.view.ensures) ∙ c.in-Busy-Good-default.is
+    ∙ ap (λ (order : Taken). Busy order done) good in
+    collected_sources c.args.side c.in-Some.redirect order done _ c.args.parts.now _ _ _ _ c.requires.fits at
+    c.in-Some.is c.a_slot_has_a_blocks_tags.ensures.demand
+    (rw (c.collect.ensures.after, c.from.ensures, c.from-2.ensures) at c.worked_on.ensures.sources)
+
+pub returns-clause-requests : goal.returns-clause-requests
+returns-clause-requests g c =
+    let order = c.in-Busy-Good-default.order in
+    let done = c.in-Busy-Good-default.done in
+    let good = rw c.in-Busy-Good-default.is at c.in-Busy-Good-default.field-0-is in
+    let at : (view_held c.args.side).file.phase ≡ Busy (Good order) done =
+    ap (λ (v : View). v.file.phase) (sym c.view.ensures) ∙ c.in-Busy-Good-default.is
+    ∙ ap (λ (order : Taken). Busy order done) good in
+    collected_requests c.args.side c.in-Some.redirect order done _ c.args.parts.now _ _ c.requires.fits at c.in-Some.is
+    (rw (c.collect.ensures.after, c.from.ensures, c.from-2.ensures) at c.worked_on.ensures.requests)
