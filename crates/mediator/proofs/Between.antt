@@ -1,5 +1,5 @@
 -- What happens between two calls keeps the plain drives for which a mediator stands.
-use Rattle.std.proofs.Common.{◌≡◌, ℕ, ◌*◌, List, take, refl, sym, ap, subst}
+use Rattle.std.proofs.Common.{ℕ, ◌*◌, List, take, refl, sym, ap, subst}
 use Rattle.ata_taskfile.specs.declared.task_file.TaskFile.{TaskFile}
 use Rattle.ata_taskfile.specs.Device.{Device}
 use Rattle.own_pio.specs.Own.{done_of, job_of}
@@ -16,6 +16,7 @@ use Rattle.monitor_state.specs.Buffered.{ReadsSoFar}
 use Rattle.monitor_state.specs.Overlaid.{Known}
 use Rattle.monitor_state.proofs.OverlaidSteps.{let_go_sectors}
 use Rattle.monitor_state.proofs.SeenSteps.{destage_unseen}
+use Rattle.monitor_state.proofs.SourcesStay.{let_go_keeps}
 use Rattle.mediator.specs.declared.mediator.Mediator.{Mediator}
 use Rattle.mediator.specs.Couples.{Couples}
 use Rattle.mediator.specs.Mediator.{parts_of, state_of}
@@ -47,6 +48,9 @@ destaged_couples k m old new q lines gone couples = record {
     asked = couples.buffers.asked;
     read = let_go_reads (state_of m) (parts_of m) old new gone couples.buffers.read;
   };
+  sources = let_go_keeps (state_of m) (parts_of m) old new lines gone couples.sources;
+  asked = couples.asked;
+  requests = couples.requests;
   told = subst (λ (f : TaskFile). IsTold f lines) (sym (ap (λ (x : Plain). x.device.file) gone.after)) couples.told;
 }
 
@@ -63,5 +67,8 @@ remembered_couples k m d memory left q lines couples = record {
   };
   sectors = couples.sectors;
   buffers = couples.buffers;
+  sources = couples.sources;
+  asked = couples.asked;
+  requests = couples.requests;
   told = couples.told;
 }

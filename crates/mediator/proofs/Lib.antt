@@ -9,4 +9,6 @@ pub mod Came
 pub mod Sectors
 pub mod Buffers
 pub mod Coupled
+pub mod Sources
 pub mod Between
+pub mod Requests

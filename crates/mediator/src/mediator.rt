@@ -19,7 +19,7 @@ ghost use Rattle.monitor_access.specs.Marks.{TakesNone, mark_due, mark_over};
 ghost use Rattle.monitor_access.specs.Parts.{KeepsOthers};
 ghost use Rattle.streaming.specs.Client.{ClientTurned, TakesFrame};
 ghost use Rattle.streaming.specs.Monitor.{asked_items, item_of};
-ghost use Rattle.streaming.specs.Lines.{Line, of_access, of_frame, of_step, of_tick, of_turn};
+ghost use Rattle.streaming.specs.Lines.{Line, line_of, of_access, of_frame, of_step, of_tick, of_turn};
 ghost use Rattle.monitor_turn.specs.Opening.{OpeningFalls};
 ghost use Rattle.monitor_turn.specs.Turned.{KeepsImage};
 ghost use Rattle.monitor_events.specs.Stepping.{device_after_step, parts_after_step, plan_due_of, view_after_step};
@@ -28,11 +28,14 @@ ghost use Rattle.monitor_events.specs.Shown.{HasComeTo};
 ghost use Rattle.mediator.specs.declared.emitting.TheConstants.{MOST_DUE};
 ghost use Rattle.mediator.specs.Mediator.{FitsAtPowerOn, FitsDrive, IsAtPowerOn, IsFit, IsStill, client_of, parts_of, state_of, with_client};
 ghost use Rattle.mediator.specs.Emitted.{GivesTurn};
-ghost use Rattle.mediator.specs.Couples.{Couples, KeepsAll, KeepsAlong, KeepsHeard, StandsAtPowerOn, line_of};
+ghost use Rattle.mediator.specs.Couples.{AsksAlong, AsksRightly, Couples, KeepsAll, KeepsAlong, KeepsHeard, StandsAtPowerOn};
 
 use crate::emitting::{push, push_asked};
 use crate::restarting::restart;
-use aoe_client::{a_slot_has_a_blocks_tags, buffers_outlast, tags_are_due_until_they_are_sent};
+use aoe_client::{
+    a_slot_has_a_blocks_tags, buffers_outlast, only_a_frame_answers_a_tag,
+    tags_are_due_until_they_are_sent,
+};
 use aoe_frame::Frame;
 use ata_taskfile::{Access, Answer, Ports, Step, Stepped};
 use bm_dma::GuestMemory;
@@ -131,6 +134,10 @@ impl Mediator {
             → mark_over q.device.file (parts_of self.old) access.now ≡ None
             → Couples k self.new (P.device ports.new) _memory.new (after_access access.now q)
             (line_of (of_access access.now) q [] ∷ lines) }
+        ensures asks { (k : Known) (q : Plain) (lines : List Line) →
+            Couples k self.old (P.device ports.old) _memory.old q lines
+            → AsksRightly (of_access access.now)
+            (item_of (mark_over q.device.file (parts_of self.old) access.now)) q lines }
 
         ensures fits { FitsDrive self.new (P.device ports.new) }
         ensures still { IsStill self.new (P.device ports.new) }
@@ -168,6 +175,7 @@ impl Mediator {
 
         ensures kept { KeepsAlong of_turn out.old.items.items out.new.items.items
             self.old (P.device ports.old) memory.old self.new (P.device ports.new) memory.new }
+        ensures asks { AsksAlong of_turn out.old.items.items out.new.items.items self.old }
 
         ensures fits { FitsDrive self.new (P.device ports.new) }
         ensures still { IsStill self.new (P.device ports.new) }
@@ -215,6 +223,8 @@ impl Mediator {
             → HasComeTo (state_of self.old) (parts_of self.old) step changed old now
             → KeepsAlong (of_step step changed) out.old.items.items out.new.items.items
             self.old old.device old.memory self.new (P.device ports.new) now.memory }
+        ensures asks { AsksAlong (of_step step changed) out.old.items.items
+            out.new.items.items self.old }
 
         ensures fits { FitsDrive self.new (P.device ports.new) }
         ensures still { IsStill self.new (P.device ports.new) }
@@ -239,6 +249,7 @@ impl Mediator {
         ensures after { self.new ≡ with_client (both_ticked (client_of self.old)) self.old }
         ensures kept { KeepsAll of_tick out.old.items.items out.new.items.items
             self.old self.new }
+        ensures asks { AsksAlong of_tick out.old.items.items out.new.items.items self.old }
         ensures items { out.new.items.items
             ≡ out.old.items.items ++ asked_items (due_tags (client_of self.new)) }
         ensures few { length (due_tags (client_of self.new)) ≤ MOST_DUE }
@@ -249,6 +260,7 @@ impl Mediator {
         asks_stay();
         same_asks_keep_the_fit();
         buffers_outlast();
+        only_a_frame_answers_a_tag();
         self.parts.client.tick();
         push_asked(&self.parts.client, out);
     }
@@ -266,13 +278,16 @@ impl Mediator {
         ensures bytes { out.new.bytes ≡ out.old.bytes }
         ensures heard { IsHeard frame.now (parts_of self.old) (parts_of self.new) }
         ensures state { state_of self.new ≡ state_of self.old }
-        ensures kept { KeepsHeard (of_frame frame.now injected) frame.now out.old.items.items
+        ensures kept { KeepsHeard frame.now injected out.old.items.items
             out.new.items.items self.old self.new }
+        ensures asks { AsksAlong (of_frame frame.now injected) out.old.items.items
+            out.new.items.items self.old }
         ensures fits { (d : Device) → FitsDrive self.old d → FitsDrive self.new d }
         ensures fit { IsFit self.new }
         ensures sent { due_tags (client_of self.new) ≡ [] }
     {
         clients_buffers_are_of_the_pool();
+        a_slot_has_a_blocks_tags(&self.parts.client);
         push(heard(&mut self.parts, frame, injected), out);
     }
 
@@ -293,6 +308,7 @@ impl Mediator {
         same_asks_keep_the_fit();
         tags_are_due_until_they_are_sent();
         buffers_outlast();
+        only_a_frame_answers_a_tag();
         self.parts.client.next_send()
     }
 

@@ -1,4 +1,4 @@
-use Rattle.std.proofs.Common.{◌++◌, List, sym, ap, ◌∙◌, subst}
+use Rattle.std.proofs.Common.{◌++◌, List, refl, sym, ap, ◌∙◌, subst}
 use Rattle.std.proofs.lemmas.List.{append_assoc}
 use Rattle.aoe_client.specs.Asking.{due_tags}
 use Rattle.plain_run.specs.Entry.{commands_in}
@@ -11,10 +11,14 @@ use Rattle.monitor_state.specs.GoesOn.{GoesOn}
 use Rattle.monitor_state.specs.Overlaid.{HasSectors}
 use Rattle.monitor_state.specs.Buffered.{HasBuffers}
 use Rattle.monitor_state.specs.Seen.{Shows}
+use Rattle.monitor_state.specs.Requests.{KeepsRequests}
+use Rattle.monitor_state.specs.Sourced.{KeepsSources}
 use Rattle.mediator.specs.declared.mediator.Mediator.{Mediator}
 use Rattle.mediator.proofs.Coupled.{along_kept, reached_told}
 use Rattle.mediator.proofs.Buffers.{buffers_over_cells}
+use Rattle.mediator.proofs.Requests.{asks_along, turned_requests}
 use Rattle.mediator.proofs.Sectors.{turned_cells, turned_sectors}
+use Rattle.mediator.proofs.Sources.{turned_asked}
 use Rattle.mediator.proofs.Standing.{left_as}
 use Rattle.mediator.proofs.Told.{told_commands}
 use Rattle.mediator.proofs.mediator.Mediator.turn.Goals as goal
@@ -71,3 +75,36 @@ returns-clause-kept g c =
     (λ q lines given same.
     reached_told of_turn q given d e lines c.turned-state.ensures.reached
     (ap commands_in same ∙ told_commands told tags ∙ c.turned-state.ensures.commands))
+    refl (λ q. refl)
+    (left_as (λ t r. KeepsSources m.state m.parts d told t r e) _ _ _ _ _ c.replace.ensures.after meanwhile
+    c.end.ensures.given
+    (subst (λ t. KeepsSources t m.parts d told c.turned-state.result.0 c.turned-state.new.parts e)
+    c.replace-state.ensures.value c.turned-state.ensures.sources))
+    (λ q lines asked.
+    turned_asked m.parts.client n.parts.client told of_turn q lines refl c.turned-state.ensures.client asked)
+    (λ q lines has.
+    turned_requests m.state n.state m.parts n.parts told q lines c.turned-state.ensures.plan
+    c.requires.fits.parts.area.background c.requires.sent c.turned-state.ensures.client
+    (left_as (λ t r. KeepsRequests m.state m.parts t r) _ _ _ _ _ c.replace.ensures.after meanwhile c.end.ensures.given
+    (subst (λ t. KeepsRequests t m.parts c.turned-state.result.0 c.turned-state.new.parts)
+    c.replace-state.ensures.value c.turned-state.ensures.requests)) has)
+
+pub returns-clause-asks : goal.returns-clause-asks
+returns-clause-asks g c =
+    let m = c.args.self.now in
+    let told = c.turned-state.result.1 in
+    let meanwhile = c.replace.ensures.value ∙ c.replace-state.ensures.after in
+    let before = c.args.out.now.items.items in
+    let n : Mediator = record {
+      state = c.replace.new.dest;
+      parts = record c.turned-state.new.parts { pool = c.end.new.pool };
+    } in
+    let tags = due_tags n.parts.client in
+    asks_along of_turn m n (item_of told ++ asked_items tags) before c.push_asked.new.out.items.items
+    (c.push_asked.ensures.items ∙ ap (λ (xs : List Item). xs ++ asked_items tags) c.push.ensures.items
+    ∙ append_assoc before (item_of told) (asked_items tags)) (λ lines has tag asks. tt) (λ q lines has.
+    turned_requests m.state n.state m.parts n.parts told q lines c.turned-state.ensures.plan
+    c.requires.fits.parts.area.background c.requires.sent c.turned-state.ensures.client
+    (left_as (λ t r. KeepsRequests m.state m.parts t r) _ _ _ _ _ c.replace.ensures.after meanwhile c.end.ensures.given
+    (subst (λ t. KeepsRequests t m.parts c.turned-state.result.0 c.turned-state.new.parts)
+    c.replace-state.ensures.value c.turned-state.ensures.requests)) has)
