@@ -1,16 +1,17 @@
 -- What several calls owe of the outside, one after the other.
 use Rattle.std.proofs.Common.{◌≡◌, ◌≢◌, ◌≤◌, ◌⊎◌, ◌++◌, ℕ, List, inl, inr, refl, sym, subst, ◌∙◌, arith}
-use Rattle.std.specs.Prelude.{Result, Ok, Err}
+use Rattle.std.specs.Prelude.{IfErr, Result, Ok, Err}
 use Rattle.schedule_text.specs.declared.LineFault.{LineFault}
 use Rattle.bm_host.specs.declared.Role.{Role}
 use Rattle.bm_host.specs.Outside.{Outside, SameElsewhere, SameCounts, Rose, Reads, Writes, Becomes, AppendsPrefix}
-use Rattle.bm_host.specs.declared.Role.TheVariants.{Console}
+use Rattle.bm_host.specs.declared.Role.TheVariants.{Image, Disk, Schedule, Report, Out, Console}
 use Rattle.bm_host.proofs.OutsideLaws.{same_counts_trans, only_rose_after, same_role}
 use Rattle.bmcast.specs.declared.stop.Stop.{Stop}
 use Rattle.bmcast.specs.declared.stop.Stop.TheVariants as stop
-use Rattle.bmcast.specs.Stop.{IsCounted, Stopped, OnBadLine, UnlessFault, status_of}
+use Rattle.bmcast.specs.Stop.{IsCounted, Stopped, OnBadLine, UnlessFault, status_after, status_of}
 use Rattle.bmcast.specs.Status.{OnlyConsole, HasItsCause, ConsoleSays, OnBadLineStatus, UnlessDone}
-use Rattle.bmcast.specs.Files.{IsLeft, LeavesFiles}
+use Rattle.bmcast.specs.Files.{IsLeft, IsRead, LeavesFiles}
+use Rattle.bmcast.specs.Stages.{StopsAt, playing, writing_out}
 use Rattle.bmcast.specs.Kept.{SameConsole}
 use Rattle.bmcast.specs.declared.Status.{Status}
 use Rattle.bmcast.specs.declared.Status.TheVariants as status
@@ -129,3 +130,33 @@ pub left_and_told : (a b c : Outside) (why : Stop) → LeavesFiles (status_of wh
     → LeavesFiles (status_of why) a c
 left_and_told a b c why left told role is =
     told.told role (λ e. console_not_left why (subst (λ r. IsLeft (status_of why) r) e is)) ∙ left role is
+
+-- a role that a run only reads is none that it writes
+unwritten : (role : Role) → IsRead role → (role ≢ Report) × (role ≢ Out)
+unwritten Image read = (λ is. cc, λ is. cc)
+unwritten Disk read = (λ is. cc, λ is. cc)
+unwritten Schedule read = (λ is. cc, λ is. cc)
+unwritten Report read = absurd read
+unwritten Out read = absurd read
+unwritten Console read = absurd read
+
+-- a stop while the schedule is played says nothing of the roles that are written
+pub left_at_play : (why : Stop) → StopsAt playing why → (role : Role) → IsLeft (status_of why) role
+    → (role ≢ Report) × (role ≢ Out)
+left_at_play (stop.ReadFault failed) stops role left = unwritten role left.0
+left_at_play (stop.WriteFault failed) stops role left = unwritten role left
+left_at_play (stop.BadLine number fault) stops role left = unwritten role left
+left_at_play stop.NoMemory stops role left = absurd stops
+left_at_play stop.Usage stops role left = absurd stops
+left_at_play (stop.Unsuitable why) stops role left = absurd stops
+
+-- nor does the end of a run
+pub left_at_end : {T : Type 0} (result : Result T Stop) → IfErr result (StopsAt writing_out) → (role : Role)
+    → IsLeft (status_after result) role → (role ≢ Report) × (role ≢ Out)
+left_at_end (Ok x) stops role left = left
+left_at_end (Err (stop.WriteFault failed)) stops role left = unwritten role left
+left_at_end (Err (stop.ReadFault failed)) stops role left = absurd stops
+left_at_end (Err (stop.BadLine number fault)) stops role left = absurd stops
+left_at_end (Err stop.NoMemory) stops role left = absurd stops
+left_at_end (Err stop.Usage) stops role left = absurd stops
+left_at_end (Err (stop.Unsuitable why)) stops role left = absurd stops

@@ -1,6 +1,7 @@
 -- One event on a drive that has no monitor: its words and bytes of memory, and what is told of it.
-use Rattle.std.proofs.Common.{◌≡◌, ◌+◌, ◌-◌, ◌<◌, ◌≤◌, ◌++◌, ℕ, suc, List, [], ◌∷◌, length, None, refl, ap, arith, ◌∙◌, append_assoc}
+use Rattle.std.proofs.Common.{◌≡◌, ◌+◌, ◌-◌, ◌<◌, ◌≤◌, ◌*◌, ◌++◌, ℕ, suc, List, [], ◌∷◌, length, take, drop, slice_index_or, None, refl, sym, ap, arith, ◌∙◌, append_assoc}
 use Rattle.std.specs.List.{flat_map}
+use Rattle.std.proofs.Math.Seq.{take-length}
 use Rattle.ata_taskfile.specs.Device.{Device, after_write_word}
 use Rattle.ata_taskfile.specs.Accesses.{all_answered}
 use Rattle.ata_taskfile.specs.declared.Access.TheVariants as access
@@ -77,9 +78,29 @@ nothing_read : (words : List ℕ) → flat_map bytes_answered (map (λ w. answer
 nothing_read [] = refl
 nothing_read (w ∷ words) = nothing_read words
 
+pub write_reads : (bytes : List ℕ) (p : Plain) → event_reads (event.WriteWords bytes) p ≡ []
+write_reads bytes p =
+    ap (flat_map bytes_answered) (write_silent (words_of bytes) p.device) ∙ nothing_read (words_of bytes)
+
 pub write_due : (bytes : List ℕ) (p : Plain) → answer_due (event.WriteWords bytes) p ≡ None
-write_due bytes p = ap answer_of (ap (flat_map bytes_answered) (write_silent (words_of bytes) p.device)
-    ∙ nothing_read (words_of bytes))
+write_due bytes p = ap answer_of (write_reads bytes p)
+
+-- the first two bytes are a word, and fewer are none
+pub one_word : (bytes : List ℕ) (word : ℕ) → 2 ≤ length bytes
+    → word ≡ slice_index_or bytes 0 0 + slice_index_or bytes 1 0 * 256
+    → words_of bytes ≡ word ∷ words_of (take (length bytes - 2) (drop 2 bytes))
+one_word [] word some is = absurd (omega arith)
+one_word (low ∷ []) word some is = absurd (omega arith)
+one_word (low ∷ high ∷ rest) word some is =
+    let same : low + 256 * high ≡ word = omega (arith, is) in
+    let many : suc (suc (length rest)) - 2 ≡ length rest = omega arith in
+    ap (λ w. w ∷ words_of rest) same
+    ∙ ap (λ list. word ∷ words_of list) (sym (ap (λ n. take n rest) many ∙ take-length rest))
+
+pub no_words : (bytes : List ℕ) → length bytes < 2 → words_of bytes ≡ []
+no_words [] few = refl
+no_words (low ∷ []) few = refl
+no_words (low ∷ high ∷ rest) few = absurd (omega arith)
 
 -- the rows of the table of events that don't compute
 pub ruleset event_rows = (read_reaches, write_reaches, write_due, words_due, memory_due)

@@ -7,3 +7,7 @@ pub mod Sending
 pub mod Deploying
 pub mod Marked
 pub mod Starting
+pub mod Keeping
+pub mod KeptEvents
+pub mod HonestReplies
+pub mod AsPlain

@@ -1,18 +1,30 @@
--- The monitor of a world that begins stands for a plain drive.
-use Rattle.std.proofs.Common.{◌≡◌, ℕ, List, [], length, Option, Some, None, sym, ap, ◌∙◌, subst}
+-- The world that begins stands for a plain drive.
+use Rattle.std.proofs.Common.{◌≡◌, ◌<◌, ◌≤◌, ◌*◌, ℕ, zero, suc, List, [], length, drop, Option, Some, None, refl, sym, ap, ◌∙◌, subst, arith}
 use Rattle.std.specs.Prelude.{IfSome}
+use Rattle.std.proofs.lemmas.List.{length-drop, length-take}
 use Rattle.ata_taskfile.specs.Device.{Cell, Device, powered_on}
+use Rattle.aoe_net.specs.Wire.{Wire, nothing_sent}
 use Rattle.fill_bitmap.specs.declared.area.Area.{Area}
-use Rattle.fill_bitmap.specs.Disk.{guest_view, stored_blocks}
+use Rattle.fill_bitmap.specs.Disk.{guest_view, sector_at, stored_blocks}
 use Rattle.plain_drive.specs.Cut.{drive_at_power_on}
-use Rattle.plain_drive.specs.Plain.{stored}
+use Rattle.plain_drive.specs.Plain.{sectors_in, stored}
 use Rattle.plain_drive.specs.Physical.{Physical, seen}
 use Rattle.plain_drive.proofs.CellEnds.{no_entries-stored}
-use Rattle.streaming.specs.World.{drive_over}
+use Rattle.streaming.specs.World.{drive_over, watched_over}
 use Rattle.mediator.specs.declared.mediator.Mediator.{Mediator}
 use Rattle.mediator.specs.Couples.{Couples, StandsAtPowerOn}
 use Rattle.mediator.specs.Mediator.{parts_of}
-use Rattle.world.specs.Coupled.{StandsBeside}
+use Rattle.world.specs.Coupled.{StandsIn, known_of, plain_over}
+use Rattle.world.specs.Deployed.{watched_in}
+
+-- the sectors of bytes of which there are enough are whole
+whole_sectors : (n : ℕ) (bytes : List ℕ) → 512 * n ≤ length bytes → (s : ℕ) → s < length (sectors_in n bytes)
+    → length (sector_at s (sectors_in n bytes)) ≡ 512
+whole_sectors zero bytes enough s below = absurd (omega arith)
+whole_sectors (suc n) bytes enough zero below = let first = length-take 512 bytes in omega arith
+whole_sectors (suc n) bytes enough (suc s) below =
+    let rest = length-drop 512 bytes in
+    whole_sectors n (drop 512 bytes) (omega arith) s (omega (arith, below))
 
 -- a drive that begins over these sectors is at power-on over them
 begins_powered : (memory : ℕ) (p : Physical) → p ≡ drive_over memory p.kept.durable
@@ -21,32 +33,47 @@ begins_powered memory p is =
     ap (λ (x : Physical). (seen x).device) is
     ∙ ap (λ (cells : List Cell). powered_on cells (length p.kept.durable)) (no_entries-stored 0 p.kept.durable)
 
-stands_beside : (area : Area) (id memory : ℕ) (m : Mediator) (p : Physical) → (parts_of m).area ≡ area
-    → (parts_of m).id ≡ id → StandsAtPowerOn m → p ≡ drive_over memory p.kept.durable
-    → length p.kept.durable ≡ area.sectors → StandsBeside area id p m
-stands_beside area id memory m p area_is id_is stands is long image whole =
-    let disk = p.kept.durable in
-    let own = parts_of m in
-    let device : (seen p).device ≡ powered_on (stored disk) own.area.sectors =
-    begins_powered memory p is
-    ∙ ap (powered_on (stored disk)) (long ∙ sym (ap (λ (a : Area). a.sectors) area_is)) in
-    let there = subst (λ (d : Device). Couples (record {
-      image = image;
-      disk = disk;
-      durable = stored_blocks own.area own.id disk;
-    }) m d p.memory (drive_at_power_on (guest_view own.area own.id image disk) own.area.sectors p.memory) [])
-    (sym device)
-    (stands image disk p.memory [] whole (long ∙ sym (ap (λ (a : Area). a.sectors) area_is))) in
-    subst (λ (i : ℕ). Couples (record { image = image; disk = disk; durable = stored_blocks area i disk }) m
-    (seen p).device p.memory (drive_at_power_on (guest_view area i image disk) area.sectors p.memory) []) id_is
-    (subst (λ (a : Area). Couples (record { image = image; disk = disk; durable = stored_blocks a own.id disk }) m
-    (seen p).device p.memory (drive_at_power_on (guest_view a own.id image disk) a.sectors p.memory) []) area_is there)
+module _ (area : Area) (id memory : ℕ) (image : List ℕ) (p : Physical) (enough : 512 * area.image ≤ length image)
+    (is : p ≡ drive_over memory p.kept.durable) (long : length p.kept.durable ≡ area.sectors) where
+  -- a monitor over the drive's area
+  couples_at_start : (m : Mediator) → (parts_of m).area ≡ area → (parts_of m).id ≡ id → StandsAtPowerOn m
+      → Couples (known_of area id image p.kept.durable) m (seen p).device p.memory (plain_over area id image p) []
+  couples_at_start m area_is id_is stands =
+      let disk = p.kept.durable in
+      let own = parts_of m in
+      let sectors = sectors_in area.image image in
+      let many : length disk ≡ own.area.sectors = long ∙ sym (ap (λ (a : Area). a.sectors) area_is) in
+      let there = subst (λ (d : Device). Couples (record {
+        image = sectors;
+        disk = disk;
+        durable = stored_blocks own.area own.id disk;
+      }) m d p.memory (drive_at_power_on (guest_view own.area own.id sectors disk) own.area.sectors p.memory) [])
+      (sym (begins_powered memory p is ∙ ap (powered_on (stored disk)) many))
+      (stands sectors disk p.memory [] refl (whole_sectors area.image image enough) many) in
+      subst (λ (i : ℕ). Couples (record { image = sectors; disk = disk; durable = stored_blocks area i disk }) m
+      (seen p).device p.memory (drive_at_power_on (guest_view area i sectors disk) area.sectors p.memory) []) id_is
+      (subst (λ (a : Area). Couples (record {
+        image = sectors;
+        disk = disk;
+        durable = stored_blocks a own.id disk;
+      }) m (seen p).device p.memory (drive_at_power_on (guest_view a own.id sectors disk) a.sectors p.memory) [])
+      area_is there)
 
--- so does the monitor of a world, if it has one
-pub any_stands_beside : (area : Area) (id memory : ℕ) (m : Option Mediator) (p : Physical)
-    → IfSome m (λ n. ((parts_of n).area ≡ area) × ((parts_of n).id ≡ id) × StandsAtPowerOn n)
-    → p ≡ drive_over memory p.kept.durable → length p.kept.durable ≡ area.sectors
-    → IfSome m (StandsBeside area id p)
-any_stands_beside area id memory None p stands is long = tt
-any_stands_beside area id memory (Some m) p stands is long =
-    stands_beside area id memory m p stands.0 stands.1 stands.2 is long
+  -- so the world that has it stands for what a guest finds
+  pub begins_as_plain : (m : Option Mediator)
+      → IfSome m (λ n. ((parts_of n).area ≡ area) × ((parts_of n).id ≡ id) × StandsAtPowerOn n)
+      → watched_in m ≡ watched_over area.block area.image → (wire : Wire) → wire ≡ nothing_sent → 0 < area.image
+      → StandsIn image (known_of area id image p.kept.durable) m
+      (record { drive = p; wire = wire; image = area.image; watched = watched_in m })
+      (plain_over area id image p) []
+  begins_as_plain None stands watched wire empty some = none_watched area.image watched some
+    where
+      none_watched : (n : ℕ) → None ≡ watched_over area.block n → 0 < n → ⊥
+      none_watched zero none below = omega arith
+      none_watched (suc n) none below = cc
+  begins_as_plain (Some m) stands watched wire empty some = record {
+    coupled = couples_at_start m stands.0 stands.1 stands.2;
+    image_is = refl;
+    sectors = ap (λ (a : Area). a.image) stands.0;
+    replies = λ k d below. absurd (omega (arith, ap (λ (w : Wire). length w.to_client) empty, below));
+  }

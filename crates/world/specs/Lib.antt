@@ -9,3 +9,4 @@ pub mod Machine
 pub mod Conveying
 pub mod Acting
 pub mod Deployed
+pub mod Keeping

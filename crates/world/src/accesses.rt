@@ -1,14 +1,18 @@
 //! The guest's accesses on a drive with a monitor, and their answers.
 
-ghost use Rattle.std.specs.Prelude.{◌≡◌, ◌≤◌, ◌<◌, ◌+◌, ◌++◌, ◌∷◌, [], length, false};
+ghost use Rattle.std.specs.Prelude.{◌≡◌, ◌≤◌, ◌<◌, ◌+◌, ◌++◌, ◌∷◌, [], length, map, replicate, false};
 ghost use Rattle.schedule_text.specs.declared.TheConstants.{ANSWER_BYTES, EVENT_WORDS};
+ghost use Rattle.plain_drive.specs.Plain.{words_of};
+ghost use Rattle.plain_run.specs.Guest.{bytes_answered};
 ghost use Rattle.port_lease.specs.View.{is_command};
 ghost use Rattle.guest_view.specs.View.{is_reset};
 ghost use Rattle.monitor_access.specs.Marks.{mark_due};
 ghost use Rattle.mediator.specs.Mediator.{parts_of, state_of};
 ghost use Rattle.streaming.specs.Monitor.{item_of};
 ghost use Rattle.world.specs.Acting.{HasAccessed};
+ghost use Rattle.world.specs.Coupled.{is_marked};
 ghost use Rattle.world.specs.Deployed.{IsReady, watched_of};
+ghost use Rattle.world.specs.Keeping.{AnswersAccess, AnswersAccesses, KeepsAccess, KeepsAccesses};
 ghost use Rattle.world.specs.Machine.{device, physical};
 
 use crate::machine::Machine;
@@ -31,6 +35,11 @@ pub(crate) fn read(
     ensures accessed { HasAccessed (physical machine.old) (physical machine.new)
         (watched_of mediator.old) (watched_of mediator.new) }
     ensures items { out.new.items.items ≡ Item.Answer ∷ [] }
+    ensures answered { AnswersAccesses (access.now ∷ []) mediator.old (physical machine.old)
+        out.new.bytes.items }
+    ensures kept { KeepsAccesses (access.now ∷ []) mediator.old (physical machine.old)
+        mediator.new (physical machine.new) }
+    ensures area { (parts_of mediator.new).area ≡ (parts_of mediator.old).area }
     ensures ready { IsReady mediator.new (device machine.new) }
 {
     let answer = make(mediator, machine, access, out);
@@ -53,6 +62,9 @@ pub(crate) fn write(
     ensures items { out.new.items.items ≡ item_of (mark_due (state_of mediator.old)
         (parts_of mediator.old) (device machine.old) access.now) }
     ensures bytes { out.new.bytes ≡ out.old.bytes }
+    ensures kept { is_marked out.new.items.items ≡ false → KeepsAccesses (access.now ∷ [])
+        mediator.old (physical machine.old) mediator.new (physical machine.new) }
+    ensures area { (parts_of mediator.new).area ≡ (parts_of mediator.old).area }
     ensures ready { IsReady mediator.new (device machine.new) }
 {
     make(mediator, machine, access, out);
@@ -68,6 +80,11 @@ pub(crate) fn read_words(mediator: &mut Mediator, machine: &mut Machine, n: u32,
     ensures accessed { HasAccessed (physical machine.old) (physical machine.new)
         (watched_of mediator.old) (watched_of mediator.new) }
     ensures items { out.new.items.items ≡ Item.Answer ∷ [] }
+    ensures answered { AnswersAccesses (replicate n Access.ReadWord) mediator.old
+        (physical machine.old) out.new.bytes.items }
+    ensures kept { KeepsAccesses (replicate n Access.ReadWord) mediator.old
+        (physical machine.old) mediator.new (physical machine.new) }
+    ensures area { (parts_of mediator.new).area ≡ (parts_of mediator.old).area }
     ensures ready { IsReady mediator.new (device machine.new) }
 {
     for _i in 0..n {
@@ -91,6 +108,9 @@ pub(crate) fn write_words(
         (watched_of mediator.old) (watched_of mediator.new) }
     ensures items { out.new.items.items ≡ [] }
     ensures bytes { out.new.bytes ≡ out.old.bytes }
+    ensures kept { KeepsAccesses (map (λ w. Access.WriteWord w) (words_of bytes.now))
+        mediator.old (physical machine.old) mediator.new (physical machine.new) }
+    ensures area { (parts_of mediator.new).area ≡ (parts_of mediator.old).area }
     ensures ready { IsReady mediator.new (device machine.new) }
 {
     let mut left = bytes;
@@ -116,6 +136,10 @@ fn make(
     ensures items { out.new.items.items ≡ out.old.items.items ++ item_of (mark_due
         (state_of mediator.old) (parts_of mediator.old) (device machine.old) access.now) }
     ensures bytes { out.new.bytes ≡ out.old.bytes }
+    ensures answered { AnswersAccess access.now mediator.old (physical machine.old) result }
+    ensures kept { KeepsAccess access.now mediator.old (physical machine.old)
+        mediator.new (physical machine.new) }
+    ensures area { (parts_of mediator.new).area ≡ (parts_of mediator.old).area }
     ensures ready { IsReady mediator.new (device machine.new) }
 {
     mediator.access(&mut machine.drive, &mut machine.memory, access, out)
@@ -125,6 +149,7 @@ fn make(
 fn push_answer(answer: Answer, out: &mut Emitted)
     requires room { length out.old.bytes.items + 4 ≤ ANSWER_BYTES }
     ensures few { length out.new.bytes.items ≤ length out.old.bytes.items + 4 }
+    ensures bytes { out.new.bytes.items ≡ out.old.bytes.items ++ bytes_answered answer }
     ensures items { out.new.items ≡ out.old.items }
 {
     match answer {

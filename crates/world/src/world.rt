@@ -18,7 +18,7 @@ ghost use Rattle.mediator.specs.Couples.{StandsAtPowerOn};
 ghost use Rattle.mediator.specs.Mediator.{IsFit, parts_of};
 ghost use Rattle.world.specs.Acting.{IsAlone};
 ghost use Rattle.world.specs.Conveying.{NeedsSectors};
-ghost use Rattle.world.specs.Coupled.{StandsBeside};
+ghost use Rattle.world.specs.Coupled.{BeginsOver, KeepsPlain};
 ghost use Rattle.monitor_state.specs.Setup.{IsSetup};
 ghost use Rattle.world.specs.Faults.{FailsAtStart, FailsByHost};
 ghost use Rattle.world.specs.Deployed.{IsSound, IsSound-prop, watched_in};
@@ -100,9 +100,9 @@ impl World {
         ensures disk { IfOk result (λ world. IfTold ((H.outside host.old).told Disk)
             (λ bytes. world.scene.drive.kept.durable ≡ sectors_in setup.now.area.sectors bytes)) }
 
-        // A monitor stands for the plain drive that begins with what a guest finds on the disk.
-        ensures coupled { IfOk result (λ world. IfSome world.mediator
-            (StandsBeside setup.now.area setup.now.id world.scene.drive)) }
+        // A world with an image stands for the plain drive that begins with what a guest finds on the disk.
+        ensures stands { IfOk result (BeginsOver ((H.outside host.old).told Image)
+            setup.now.area setup.now.id) }
         ensures fault { FailsAtStart result (H.outside host.old) (H.outside host.new) }
         ensures bytes { SameBytes (H.outside host.old) (H.outside host.new) }
         ensures looked { KeepsLooked (H.outside host.old) (H.outside host.new) }
@@ -145,6 +145,12 @@ impl World {
         // refuses it.
         ensures reserved { OnOk result ((m : MediatorOf) → self.old.mediator ≡ Some m
             → IsMarkedRight event.now m self.old.scene.drive out.new.items.items) }
+
+        // Each plain drive for which the world stands it goes on to stand for, up to a mark: what is told is that
+        // drive's, and what it reads for the guest came from the drive or from the image's server.
+        ensures kept { OnOk result (IfTold ((H.outside host.old).told Image) (λ image.
+            KeepsPlain image self.old
+            (entry_of event.now out.new.items.items out.new.bytes.items) self.new)) }
 
         // It fails only where sectors of the image go into the reply to a frame that the server is handed.
         ensures needed { OnErr result (HandsSectors event.now self.old.scene) }

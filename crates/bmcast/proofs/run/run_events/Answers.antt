@@ -2,7 +2,7 @@ use Rattle.std.specs.Prelude.{Err}
 use Rattle.std.proofs.Common.{◌∙◌}
 use Rattle.std.proofs.lemmas.Result.{on_ok_weaker}
 use Rattle.run_words.specs.Options.{seen}
-use Rattle.bmcast.proofs.StopLaws.{bad_line_weaker}
+use Rattle.bmcast.proofs.StopLaws.{bad_line_weaker, left_at_end, left_at_play, stopped_after}
 use Rattle.bmcast.proofs.RunLaws.{done, bad_line, started_over}
 use Rattle.bmcast.proofs.run.run_events.Goals as goal
 
@@ -33,3 +33,20 @@ returns-in-Err-report_run-clause-bad g c =
     c.in-Ok-start.ensures.began c.in-Ok-start.ensures.sectors c.in-Ok-start.ensures.disk)
     stopped)
     c.in-Err-report_run.ensures.bad
+
+pub returns-in-Ok-report_run-clause-files : goal.returns-in-Ok-report_run-clause-files
+returns-in-Ok-report_run-clause-files g c = λ role left.
+    let both = left_at_end c.end_run.result c.end_run.ensures.stops role left in
+    c.end_run.ensures.files role both.1 ∙ c.in-Ok-report_run.ensures.files role both.0
+    ∙ c.in-Ok-start.ensures.bytes.told role ∙ c.in-Ok.ensures.files role both
+
+pub returns-in-Err-report_run-clause-files : goal.returns-in-Err-report_run-clause-files
+returns-in-Err-report_run-clause-files g c = λ role left.
+    let both = left_at_play c.in-Err-report_run.stop c.in-Err-report_run.ensures.stops role left in
+    c.in-Err-report_run.ensures.files role both.0 ∙ c.in-Ok-start.ensures.bytes.told role
+    ∙ c.in-Ok.ensures.files role both
+
+pub returns-in-Err-report_run-clause-counts : goal.returns-in-Err-report_run-clause-counts
+returns-in-Err-report_run-clause-counts g c =
+    stopped_after _ _ _ c.in-Err-report_run.stop c.in-Ok.ensures.counts
+    (stopped_after _ _ _ c.in-Err-report_run.stop c.in-Ok-start.ensures.fault c.in-Err-report_run.ensures.counts)

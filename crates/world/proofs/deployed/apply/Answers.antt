@@ -1,11 +1,12 @@
 use Rattle.std.proofs.Common.{sym, ap, ◌∙◌, subst}
 use Rattle.aoe_client.specs.Asking.{due_tags}
 use Rattle.mediator.specs.declared.mediator.Mediator.{Mediator}
-use Rattle.mediator.specs.Mediator.{IsStill, client_of}
+use Rattle.bm_host.specs.declared.Role.TheVariants.{Image}
+use Rattle.mediator.specs.Mediator.{IsStill, client_of, parts_of}
 use Rattle.streaming.proofs.AllSent.{none_left}
 use Rattle.world.specs.Deployed.{watched_of}
 use Rattle.world.specs.Machine.{device, physical}
-use Rattle.world.proofs.Deploying.{deployed}
+use Rattle.world.proofs.Deploying.{deployed, plain_kept}
 use Rattle.world.proofs.Marked.{marked_right}
 use Rattle.world.proofs.deployed.apply.Goals as goal
 
@@ -15,6 +16,20 @@ returns-clause-event g c =
     c.args.net.now _ _ _ _ _ (watched_of c.act.new.mediator) _ c.args.event.now _ _ c.requires.built c.act.ensures.bytes
     (c.act.ensures.acted c.args.net.now c.in-Ok.ensures.frame) c.in-Ok.ensures.network
     (ap watched_of c.send_all.ensures.after) c.send_all.ensures.wire
+
+pub returns-clause-kept : goal.returns-clause-kept
+returns-clause-kept g c =
+    let event_is = deployed c.args.sectors (g.H.Host.outside c.args.host.now) (g.H.Host.outside c.convey.new.host)
+    c.args.net.now _ _ _ _ _ (watched_of c.act.new.mediator) _ c.args.event.now _ _ c.requires.built c.act.ensures.bytes
+    (c.act.ensures.acted c.args.net.now c.in-Ok.ensures.frame) c.in-Ok.ensures.network
+    (ap watched_of c.send_all.ensures.after) c.send_all.ensures.wire in
+    plain_kept ((g.H.Host.outside c.args.host.now).told Image) c.args.sectors c.args.mediator.now c.act.new.mediator
+    c.send_all.new.mediator (physical c.args.machine.now) (physical c.act.new.machine) c.args.net.now c.send_all.new.net
+    c.args.event.now c.act.new.out.items.items c.act.new.out.bytes.items event_is.count event_is.monitored.told
+    c.requires.in_range c.requires.built event_is.monitored.monitor event_is.network
+    (c.act.ensures.kept c.args.net.now c.in-Ok.ensures.frame)
+    (ap (λ (m : Mediator). (parts_of m).area) c.send_all.ensures.after ∙ c.act.ensures.area)
+    (λ k q lines stand. c.send_all.ensures.kept k _ _ q lines stand)
 
 pub returns-clause-ready : goal.returns-clause-ready
 returns-clause-ready g c = record {
