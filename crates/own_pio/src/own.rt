@@ -101,8 +101,8 @@ impl Own {
         ensures well { result ≡ Poll.Done → shows_well (P.device ports.new).file ≡ true }
         ensures goes { goes_on result ≡ true → 0 < polls_left self.new }
 
-        // A block that went leaves the drive at work.
-        ensures works { result ≡ Poll.Moved
+        // As long as the command goes on the drive is at work behind a poll.
+        ensures works { goes_on result ≡ true
             → is_at_work (P.device ports.new).file.phase ≡ true }
         ensures own { has_own side.new ≡ (goes_on result && has_own side.old) }
 

@@ -62,7 +62,7 @@ pub(crate) fn poll_drive<P: Ports>(
     ensures free { goes_on result ≡ false → is_free (P.device ports.new).file ≡ true }
     ensures well { result ≡ Poll.Done → shows_well (P.device ports.new).file ≡ true }
     ensures goes { goes_on result ≡ true → 0 < left_after result left }
-    ensures works { result ≡ Poll.Moved → is_at_work (P.device ports.new).file.phase ≡ true }
+    ensures works { goes_on result ≡ true → is_at_work (P.device ports.new).file.phase ≡ true }
     ensures kept { (start : List ℕ) (origin : List Cell) →
         IsDoneSoFar job (done_by job left) bytes.old start origin (P.device ports.old)
         → Leaves result job left bytes.new start origin (P.device ports.new) }
@@ -116,7 +116,7 @@ fn move_block<P: Ports>(job: OwnJob, left: u32, ports: &mut P, bytes: &mut [u8])
     ensures free { goes_on result ≡ false → is_free (P.device ports.new).file ≡ true }
     ensures well { result ≡ Poll.Done → shows_well (P.device ports.new).file ≡ true }
     ensures goes { goes_on result ≡ true → 0 < left_after result left }
-    ensures works { result ≡ Poll.Moved → is_at_work (P.device ports.new).file.phase ≡ true }
+    ensures works { goes_on result ≡ true → is_at_work (P.device ports.new).file.phase ≡ true }
     ensures kept { (start : List ℕ) (origin : List Cell) →
         IsDoneSoFar job (done_by job left) bytes.old start origin (P.device ports.old)
         → Leaves result job left bytes.new start origin (P.device ports.new) }
