@@ -19,3 +19,4 @@ pub mod Asked
 pub mod Sourced
 pub mod OpenTags
 pub mod AskCounts
+pub mod Helpful
