@@ -4,6 +4,7 @@ use Rattle.std.proofs.lemmas.Bool.{true≢false}
 use Rattle.ata_taskfile.specs.declared.Access.{Access}
 use Rattle.ata_taskfile.specs.declared.Phase.{Phase}
 use Rattle.ata_taskfile.specs.Device.{Cell, Device}
+use Rattle.ata_taskfile.specs.TaskFile.{status}
 use Rattle.mon_pool.specs.Region.{Region}
 use Rattle.port_lease.specs.declared.guest_side.GuestSide.{GuestSide}
 use Rattle.port_lease.specs.declared.monitor_side.MonitorSide.{MonitorSide}
@@ -25,8 +26,10 @@ use Rattle.monitor_state.specs.declared.state.Purpose.{Purpose}
 use Rattle.monitor_state.specs.declared.state.Purpose.TheVariants as purpose
 use Rattle.monitor_state.specs.declared.parts.Parts.{Parts}
 use Rattle.monitor_state.specs.Fits.{Fits, FitsState}
+use Rattle.monitor_state.specs.Opening.{OpeningStays}
 use Rattle.monitor_state.specs.Overlaid.{OpeningGoesOn, OpensOver, job_bytes}
 use Rattle.monitor_state.specs.Pieces.{tidied}
+use Rattle.monitor_state.proofs.OpeningLeft.{same_left, same_status}
 use Rattle.monitor_access.specs.Parts.{KeepsOthers}
 use Rattle.monitor_access.proofs.Viewed.{left_others}
 
@@ -102,6 +105,17 @@ pub raising_goes_on : (s t : State) (side : MonitorSide) (dummy : Dummy) (planne
 raising_goes_on s t side dummy planned p r d e is fits closed =
     let state = subst (λ s. FitsState s p) is fits.parts.state in absurd (true≢false (sym state.4 ∙ closed))
 
+-- so that it stays as it was
+pub guest_stays : (s t : State) (side : GuestSide) (p r : Parts) (d e : Device) → s ≡ Guest side → Fits s p d
+    → OpeningStays s p d t r e
+guest_stays s t side p r d e is fits closed =
+    let state = subst (λ s. FitsState s p) is fits.parts.state in absurd (true≢false (sym state.1 ∙ closed))
+
+pub raising_stays : (s t : State) (side : MonitorSide) (dummy : Dummy) (planned : Plan) (p r : Parts) (d e : Device)
+    → s ≡ Raising side dummy planned → Fits s p d → OpeningStays s p d t r e
+raising_stays s t side dummy planned p r d e is fits closed =
+    let state = subst (λ s. FitsState s p) is fits.parts.state in absurd (true≢false (sym state.4 ∙ closed))
+
 -- an access on the monitor's side leaves it, whatever else it lets go
 module _ (a : Access) (phase : Phase) (old new : MonitorSide) (p r : Parts) (d e : Device)
     (parts : r ≡ tidied phase p) (drive : e ≡ drive_after false (view_held old) a d) where
@@ -124,3 +138,16 @@ module _ (a : Access) (phase : Phase) (old new : MonitorSide) (p r : Parts) (d e
       subst (λ (r : Parts). OpeningGoesOn (Running old own why) p d (Running new own why) r e) (sym others)
       (still_opening r.held r.hand r.pool p d e left (Running old own why) (Running new own why)
       (λ disk. still_running r.held r.hand r.pool p d e left why disk old new own))
+
+  shows_as_before : status e.file ≡ status d.file
+  shows_as_before = ap (λ (x : Device). status x.file) drive ∙ same_status false (view_held old) a d
+
+  same_opening : r.opening ≡ p.opening
+  same_opening = ap (λ (x : Parts). x.opening) others
+
+  pub resting_stays : OpeningStays (Monitor old) p d (Monitor new) r e
+  resting_stays closed = (same_left (Monitor new) p r d e same_opening shows_as_before, shows_as_before)
+
+  pub running_stays : (own : Own) (why : Purpose) → OpeningStays (Running old own why) p d (Running new own why) r e
+  running_stays own why closed =
+      (same_left (Running new own why) p r d e same_opening shows_as_before, shows_as_before)

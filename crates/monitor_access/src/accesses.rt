@@ -10,6 +10,7 @@ ghost use Rattle.port_lease.specs.View.{is_command};
 ghost use Rattle.guest_view.specs.View.{is_reset};
 ghost use Rattle.monitor_state.specs.Fits.{Fits, IsBetweenEvents};
 ghost use Rattle.monitor_state.specs.Buffered.{KeepsBuffers};
+ghost use Rattle.monitor_state.specs.Opening.{OpeningStays};
 ghost use Rattle.monitor_state.specs.Overlaid.{OpeningGoesOn};
 ghost use Rattle.monitor_state.specs.Seen.{Shows};
 ghost use Rattle.monitor_state.specs.Requests.{AccessKeepsRequests};
@@ -60,8 +61,10 @@ pub fn accessed<P: Ports>(
         Shows state parts.old (P.device ports.old) memory q
         → result.2 ≡ mark_over q.device.file parts.old access.now }
 
-    // While opening hasn't ended the sectors of every such plain drive stay so.
+    // While opening hasn't ended the sectors of every such plain drive stay so, and as much of it is left.
     ensures opening { OpeningGoesOn state parts.old (P.device ports.old)
+        result.0 parts.new (P.device ports.new) }
+    ensures stays { OpeningStays state parts.old (P.device ports.old)
         result.0 parts.new (P.device ports.new) }
 
     // The buffers go on to hold what the plain drive has there.
@@ -255,6 +258,8 @@ fn resting<P: Ports>(
         ≡ mark_due (State.Monitor side) parts.old (P.device ports.old) access.now }
     ensures opening { OpeningGoesOn (State.Monitor side) parts.old (P.device ports.old)
         result.0 parts.new (P.device ports.new) }
+    ensures stays { OpeningStays (State.Monitor side) parts.old (P.device ports.old)
+        result.0 parts.new (P.device ports.new) }
     ensures buffers { GoesOnHolding (State.Monitor side) parts.old (P.device ports.old)
         result.0 parts.new (P.device ports.new) }
     ensures sources { AccessKeepsSources access.now (State.Monitor side) parts.old (P.device ports.old)
@@ -296,6 +301,8 @@ fn running<P: Ports>(
     ensures mark { result.2
         ≡ mark_due (State.Running side own purpose) parts.old (P.device ports.old) access.now }
     ensures opening { OpeningGoesOn (State.Running side own purpose) parts.old (P.device ports.old)
+        result.0 parts.new (P.device ports.new) }
+    ensures stays { OpeningStays (State.Running side own purpose) parts.old (P.device ports.old)
         result.0 parts.new (P.device ports.new) }
     ensures buffers { GoesOnHolding (State.Running side own purpose) parts.old (P.device ports.old)
         result.0 parts.new (P.device ports.new) }

@@ -29,3 +29,5 @@ pub mod CutSectors
 pub mod SourcesStay
 pub mod Behind
 pub mod Waiting
+pub mod Unopened
+pub mod OpeningLeft

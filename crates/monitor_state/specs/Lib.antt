@@ -17,3 +17,4 @@ pub mod Overlaid
 pub mod Buffered
 pub mod Sourced
 pub mod Requests
+pub mod Opening

@@ -13,11 +13,12 @@
 //! `specs/Seen.antt` says what the guest sees, whoever has the drive, and when a plain drive is that (`Shows`),
 //! `Sectors` when what the guest gets of sectors is what such a drive has there, and `GoesOn` what a call that tells of
 //! steps makes of it. `Overlaid` says whose value each sector has that a deployment gives its guest, and what a power
-//! cut would leave of it (`HasSectors`).
+//! cut would leave of it (`HasSectors`). `Opening` counts what is left of opening.
 //!
 //! The laws stand in `laws` (accesses, steps, power-on), `in_hand` (the view's own steps), `seen` (what the guest
-//! sees), `sectors` (whose value each sector has), `cuts` (what a guest finds at power-on, and after a cut), `asks`
-//! (the client), `leases` and `starting`. `tests` is a table by hand of the calls of `Parts`.
+//! sees), `sectors` (whose value each sector has), `cuts` (what a guest finds at power-on, and after a cut), `opening`
+//! (what is left of it), `asks` (the client), `leases` and `starting`. `tests` is a table by hand of the calls of
+//! `Parts`.
 
 #![tactic(auto)]
 
@@ -27,6 +28,7 @@ mod held;
 mod in_hand;
 mod laws;
 mod leases;
+mod opening;
 mod parts;
 mod sectors;
 mod seen;
@@ -51,6 +53,7 @@ pub use laws::{
     accesses_keep_the_parts, held_pieces_are_of_the_parts, steps_keep_the_fit, views_are_in_step,
 };
 pub use leases::{a_buffer_is_free, leases_go_back_in_order};
+pub use opening::{a_good_step_ends_the_wait, only_a_failed_step_raises_what_is_left};
 pub use parts::Parts;
 pub use sectors::{
     register_accesses_keep_the_sectors, steps_keep_the_sectors,

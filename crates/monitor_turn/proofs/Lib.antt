@@ -15,7 +15,6 @@ pub mod Collecting
 pub mod CameBlock
 pub mod Buffers
 pub mod Taken
-pub mod OpeningLeft
 pub mod OpeningSectors
 pub mod OpeningEnds
 pub mod PieceBuffer

@@ -19,7 +19,7 @@ ghost use Rattle.monitor_state.specs.GoesOn.{GoesOn};
 ghost use Rattle.monitor_state.specs.Overlaid.{OpeningGoesOn};
 ghost use Rattle.schedule_text.specs.Taken.{command_item};
 ghost use Rattle.streaming.specs.Monitor.{item_of};
-ghost use Rattle.monitor_turn.specs.Opening.{OpeningFalls};
+ghost use Rattle.monitor_turn.specs.Opening.{OpeningFalls, OpeningHolds};
 ghost use Rattle.monitor_turn.specs.Turned.{HasTurned};
 ghost use Rattle.monitor_turn.specs.Work.{is_on_disk};
 
@@ -62,6 +62,8 @@ pub(crate) fn polled<P: Ports>(
     ensures client { parts.new.client ≡ parts.old.client }
     ensures progress { OpeningFalls (State.Running side own purpose)
         parts.old (P.device ports.old) result.0 parts.new (P.device ports.new) }
+    ensures holds { OpeningHolds (State.Running side own purpose)
+        parts.old (P.device ports.old) result.0 parts.new (P.device ports.new) }
     ensures opening { OpeningGoesOn (State.Running side own purpose)
         parts.old (P.device ports.old) result.0 parts.new (P.device ports.new) }
     ensures buffers { KeepsBuffers (State.Running side own purpose)
@@ -96,6 +98,8 @@ fn polled_opening<P: Ports>(
         (item_of result.1) result.0 parts.new (P.device ports.new) memory }
     ensures client { parts.new.client ≡ parts.old.client }
     ensures progress { OpeningFalls (State.Running side own Purpose.Opening)
+        parts.old (P.device ports.old) result.0 parts.new (P.device ports.new) }
+    ensures holds { OpeningHolds (State.Running side own Purpose.Opening)
         parts.old (P.device ports.old) result.0 parts.new (P.device ports.new) }
     ensures opening { OpeningGoesOn (State.Running side own Purpose.Opening)
         parts.old (P.device ports.old) result.0 parts.new (P.device ports.new) }
@@ -246,6 +250,8 @@ pub(crate) fn opening_next<P: Ports>(
         parts.now (P.device ports.old) memory
         (item_of result.1) result.0 parts.now (P.device ports.new) memory }
     ensures progress { OpeningFalls (State.Monitor side) parts.now (P.device ports.old)
+        result.0 parts.now (P.device ports.new) }
+    ensures holds { OpeningHolds (State.Monitor side) parts.now (P.device ports.old)
         result.0 parts.now (P.device ports.new) }
     ensures opening { OpeningGoesOn (State.Monitor side) parts.now (P.device ports.old)
         result.0 parts.now (P.device ports.new) }

@@ -16,7 +16,7 @@ ghost use Rattle.monitor_state.specs.GoesOn.{GoesOn};
 ghost use Rattle.monitor_state.specs.Overlaid.{OpeningGoesOn};
 ghost use Rattle.monitor_state.specs.Seen.{file_seen};
 ghost use Rattle.streaming.specs.Client.{ClientTurned};
-ghost use Rattle.monitor_turn.specs.Opening.{OpeningFalls};
+ghost use Rattle.monitor_turn.specs.Opening.{OpeningFalls, OpeningHolds};
 ghost use Rattle.streaming.specs.Monitor.{item_of};
 ghost use Rattle.streaming.specs.Told.{MayTell};
 ghost use Rattle.monitor_turn.specs.Told.{tells_steps};
@@ -36,10 +36,10 @@ use schedule_text::Item;
 /// opening has ended.
 ///
 /// Steps are told of a reset and of a read alone, which change no sector. A block that is to be obtained is asked of
-/// the client. While opening hasn't ended less is left of it after each turn at which the drive isn't at work, and the
-/// sectors of every plain drive stay those that the deployment gives its guest, also where it ends now. The buffers go
-/// on to hold what the plain drive has there. Each step that is told loads or moves a sector with a source, and no
-/// write is given while a read of the guest's is in hand.
+/// the client. While opening hasn't ended no more is left of it after a turn, and less after each at which the drive
+/// isn't at work, and the sectors of every plain drive stay those that the deployment gives its guest, also where it
+/// ends now. The buffers go on to hold what the plain drive has there. Each step that is told loads or moves a sector
+/// with a source, and no write is given while a read of the guest's is in hand.
 pub fn turned<P: Ports>(
     state: State,
     parts: &mut Parts,
@@ -60,6 +60,8 @@ pub fn turned<P: Ports>(
     ensures client { ClientTurned parts.old.client parts.new.client }
     ensures image { KeepsImage parts.old parts.new }
     ensures progress { OpeningFalls state parts.old (P.device ports.old)
+        result.0 parts.new (P.device ports.new) }
+    ensures holds { OpeningHolds state parts.old (P.device ports.old)
         result.0 parts.new (P.device ports.new) }
     ensures opening { OpeningGoesOn state parts.old (P.device ports.old)
         result.0 parts.new (P.device ports.new) }
@@ -129,6 +131,8 @@ fn monitor<P: Ports>(
         → leaves_sectors (view_held side).file.phase ≡ true }
     ensures client { ClientTurned parts.old.client parts.new.client }
     ensures progress { OpeningFalls (State.Monitor side) parts.old (P.device ports.old)
+        result.0 parts.new (P.device ports.new) }
+    ensures holds { OpeningHolds (State.Monitor side) parts.old (P.device ports.old)
         result.0 parts.new (P.device ports.new) }
     ensures opening { OpeningGoesOn (State.Monitor side) parts.old (P.device ports.old)
         result.0 parts.new (P.device ports.new) }

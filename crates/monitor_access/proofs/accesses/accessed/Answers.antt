@@ -1,6 +1,6 @@
 use Rattle.std.proofs.Common.{◌∙◌}
 use Rattle.monitor_state.specs.Seen.{file_seen}
-use Rattle.monitor_access.proofs.Opening.{guest_goes_on, raising_goes_on}
+use Rattle.monitor_access.proofs.Opening.{guest_goes_on, guest_stays, raising_goes_on, raising_stays}
 use Rattle.monitor_access.proofs.Seen.{answered_alike, marked_alike}
 use Rattle.monitor_access.proofs.accesses.accessed.Goals as goal
 
@@ -21,6 +21,11 @@ returns-in-Guest-clause-marked g c = λ memory q shows.
 pub returns-in-Guest-clause-opening : goal.returns-in-Guest-clause-opening
 returns-in-Guest-clause-opening g c =
     guest_goes_on c.args.state c.guest.result.0 c.in-Guest.side c.args.parts.now c.guest.new.parts
+    (g.P.Ports.device c.args.ports.now) (g.P.Ports.device c.guest.new.ports) c.in-Guest.is c.requires.fits
+
+pub returns-in-Guest-clause-stays : goal.returns-in-Guest-clause-stays
+returns-in-Guest-clause-stays g c =
+    guest_stays c.args.state c.guest.result.0 c.in-Guest.side c.args.parts.now c.guest.new.parts
     (g.P.Ports.device c.args.ports.now) (g.P.Ports.device c.guest.new.ports) c.in-Guest.is c.requires.fits
 
 pub returns-in-Monitor-clause-shown : goal.returns-in-Monitor-clause-shown
@@ -68,6 +73,12 @@ returns-in-Raising-clause-marked g c = λ memory q shows.
 pub returns-in-Raising-clause-opening : goal.returns-in-Raising-clause-opening
 returns-in-Raising-clause-opening g c =
     raising_goes_on c.args.state c.raising.result.0 c.in-Raising.side c.in-Raising.dummy c.in-Raising.plan
+    c.args.parts.now c.raising.new.parts (g.P.Ports.device c.args.ports.now)
+    (g.P.Ports.device c.raising.new.ports) c.in-Raising.is c.requires.fits
+
+pub returns-in-Raising-clause-stays : goal.returns-in-Raising-clause-stays
+returns-in-Raising-clause-stays g c =
+    raising_stays c.args.state c.raising.result.0 c.in-Raising.side c.in-Raising.dummy c.in-Raising.plan
     c.args.parts.now c.raising.new.parts (g.P.Ports.device c.args.ports.now)
     (g.P.Ports.device c.raising.new.ports) c.in-Raising.is c.requires.fits
 

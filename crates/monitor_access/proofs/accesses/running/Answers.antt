@@ -4,7 +4,7 @@ use Rattle.port_lease.specs.Sides.{view_held}
 use Rattle.monitor_state.specs.declared.parts.Parts.{Parts}
 use Rattle.monitor_state.specs.Seen.{Shows}
 use Rattle.monitor_access.proofs.Buffers.{running_holds}
-use Rattle.monitor_access.proofs.Opening.{running_goes_on}
+use Rattle.monitor_access.proofs.Opening.{running_goes_on, running_stays}
 use Rattle.monitor_access.proofs.Viewed.{viewed_shown}
 use Rattle.monitor_state.specs.declared.state.State.TheVariants.{Running}
 use Rattle.monitor_access.proofs.Requests.{viewed_requests}
@@ -32,6 +32,13 @@ pub returns-clause-opening : goal.returns-clause-opening
 returns-clause-opening g c =
     let call = c.by_view-answer in
     running_goes_on c.args.access.now (view_held call.new.side).file.phase c.args.side call.new.side c.args.parts.now
+    call.new.parts (g.P.Ports.device c.args.ports.now) (g.P.Ports.device call.new.ports) call.ensures.parts
+    call.ensures.drive c.args.own c.args.purpose
+
+pub returns-clause-stays : goal.returns-clause-stays
+returns-clause-stays g c =
+    let call = c.by_view-answer in
+    running_stays c.args.access.now (view_held call.new.side).file.phase c.args.side call.new.side c.args.parts.now
     call.new.parts (g.P.Ports.device c.args.ports.now) (g.P.Ports.device call.new.ports) call.ensures.parts
     call.ensures.drive c.args.own c.args.purpose
 
