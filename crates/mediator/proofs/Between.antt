@@ -7,6 +7,8 @@ use Rattle.own_pio.proofs.Stored.{let_go_kept}
 use Rattle.mon_pool.specs.Region.{leased_bytes}
 use Rattle.plain_drive.specs.Plain.{Plain}
 use Rattle.plain_drive.specs.Seen.{HasLetGo}
+use Rattle.fill_bitmap.specs.Area.{bitmap_sectors_of}
+use Rattle.streaming.specs.Helpful.{IsReadyInTime}
 use Rattle.streaming.specs.Lines.{IsTold, Line}
 use Rattle.monitor_state.specs.declared.state.State.{State}
 use Rattle.monitor_state.specs.declared.state.State.TheVariants.{Guest, Monitor, Running, Raising, Moving}
@@ -20,6 +22,7 @@ use Rattle.monitor_state.proofs.SourcesStay.{let_go_keeps}
 use Rattle.mediator.specs.declared.mediator.Mediator.{Mediator}
 use Rattle.mediator.specs.Couples.{Couples}
 use Rattle.mediator.specs.Mediator.{parts_of, state_of}
+use Rattle.mediator.proofs.Ready.{destaged_ready, in_time}
 
 -- what an own read has read stays, as the sectors at its begin do
 let_go_reads : (s : State) (p : Parts) (old new : Plain) → HasLetGo old new → ReadsSoFar s p old.device
@@ -52,6 +55,7 @@ destaged_couples k m old new q lines gone couples = record {
   asked = couples.asked;
   requests = couples.requests;
   told = subst (λ (f : TaskFile). IsTold f lines) (sym (ap (λ (x : Plain). x.device.file) gone.after)) couples.told;
+  ready = destaged_ready (state_of m) (parts_of m) old new lines gone couples.ready;
 }
 
 pub remembered_couples : (k : Known) (m : Mediator) (d : Device) (memory left : List ℕ) (q : Plain)
@@ -71,4 +75,11 @@ remembered_couples k m d memory left q lines couples = record {
   asked = couples.asked;
   requests = couples.requests;
   told = couples.told;
+  ready = couples.ready;
 }
+
+-- a monitor for which a plain drive stands is ready in time
+pub ready_in_time : (k : Known) (m : Mediator) (d : Device) (memory : List ℕ) (q : Plain) (lines : List Line)
+    → Couples k m d memory q lines
+    → IsReadyInTime (parts_of m).area.block (bitmap_sectors_of (parts_of m).area) lines
+ready_in_time k m d memory q lines couples = in_time (state_of m) (parts_of m) d lines couples.ready

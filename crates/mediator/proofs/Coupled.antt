@@ -19,6 +19,7 @@ use Rattle.schedule_text.specs.declared.Item.{Item}
 use Rattle.schedule_text.specs.Taken.{commands_due}
 use Rattle.plain_run.specs.Entry.{commands_in}
 use Rattle.plain_run.specs.Plan.{planned}
+use Rattle.streaming.specs.Helpful.{is_good_step, is_turn}
 use Rattle.streaming.specs.Lines.{Call, IsTold, Line, line_of}
 use Rattle.streaming.specs.Sources.{is_power_on, takes_command_in}
 use Rattle.streaming.specs.Monitor.{asked_items, item_of}
@@ -43,7 +44,9 @@ use Rattle.monitor_state.proofs.SourcesStay.{asking_asked, asking_keeps, lines_k
 use Rattle.mediator.specs.declared.mediator.Mediator.{Mediator}
 use Rattle.mediator.specs.Couples.{GoesAlong, KeepsAll, KeepsAlong, StandsAtPowerOn}
 use Rattle.mediator.specs.Mediator.{IsAtPowerOn, StartsWith, client_of, parts_of, state_of, with_client}
+use Rattle.mediator.specs.Ready.{BecomesReady}
 use Rattle.mediator.proofs.Buffers.{client_buffers}
+use Rattle.mediator.proofs.Ready.{line_ready, others_ready, started_ready}
 use Rattle.mediator.proofs.Requests.{started_requests}
 use Rattle.mediator.proofs.Sectors.{client_sectors, sectors_agree}
 use Rattle.mediator.proofs.Sources.{along_has, along_sources, along_spares, line_goes_on, still_asked}
@@ -86,9 +89,11 @@ pub along_kept : (call : Call) (m n : Mediator) (d e : Device) (memory left : Li
     → WereAsked (client_of n) (line_of call q (item_of told ++ asked_items tags) ∷ lines))
     → ((q : Plain) (lines : List Line) → HasRequests (state_of m) (parts_of m) lines
     → HasRequests (state_of n) (parts_of n) (line_of call q (item_of told ++ asked_items tags) ∷ lines))
+    → ((q : Plain) (lines : List Line) → BecomesReady (state_of m) (parts_of m) d lines
+    → BecomesReady (state_of n) (parts_of n) e (line_of call q (item_of told ++ asked_items tags) ∷ lines))
     → KeepsAlong call before after m d memory n e left
 along_kept call m n d e memory left told tags before after items lawful fits has_tags whole goes_on sectors
-    buffers is_told on takes keeps asks requests = λ k q lines given is couples.
+    buffers is_told on takes keeps asks requests ready = λ k q lines given is couples.
     let same : given ≡ item_of told ++ asked_items tags = append_cancel_left before _ _ (sym is ∙ items) in
     let made : planned given q ≡ planned (item_of told) q =
     ap (λ xs. planned xs q) same ∙ told_planned told tags q in
@@ -116,6 +121,8 @@ along_kept call m n d e memory left told tags before after items lawful fits has
         requests = subst (λ xs. HasRequests (state_of n) (parts_of n) (line_of call q xs ∷ lines)) (sym same)
             (requests q lines couples.requests);
         told = is_told q lines given same couples.told;
+        ready = subst (λ xs. BecomesReady (state_of n) (parts_of n) e (line_of call q xs ∷ lines)) (sym same)
+            (ready q lines couples.ready);
       },
     )
 
@@ -144,13 +151,13 @@ client_shown Moving p c d memory q shows =
 pub client_kept : (call : Call) (m n : Mediator) (c : Asking) (given before after : List Item) → n ≡ with_client c m
     → after ≡ before ++ given → commands_in given ≡ []
     → ((source : ℕ → List ℕ) → BothHold source (client_of m) (parts_of m).pool → BothHold source c (parts_of m).pool)
-    → is_power_on call ≡ false → ((q : Plain) → takes_command_in call q ≡ false)
-    → BothAskOn (client_of m) c → BothAskTheSame (client_of m) c
+    → is_power_on call ≡ false → is_turn call ≡ false → is_good_step call ≡ false
+    → ((q : Plain) → takes_command_in call q ≡ false) → BothAskOn (client_of m) c → BothAskTheSame (client_of m) c
     → ((q : Plain) (lines : List Line) → HasRequests (state_of m) (parts_of m) lines
     → HasRequests (state_of m) (record (parts_of m) { client = c }) (line_of call q given ∷ lines))
     → KeepsAll call before after m n
-client_kept call m n c gave before after is items none outlast on takes asks_on asks requests = λ k d memory q lines given says
-    couples.
+client_kept call m n c gave before after is items none outlast on turn good takes asks_on asks requests = λ k d memory q
+    lines given says couples.
     let same : given ≡ gave = append_cancel_left before _ _ (sym says ∙ items) in
     record {
       shows = subst (λ (x : Mediator). Shows (state_of x) (parts_of x) d memory q) (sym is)
@@ -171,6 +178,10 @@ client_kept call m n c gave before after is items none outlast on takes asks_on 
           (subst (λ xs. HasRequests (state_of m) (record (parts_of m) { client = c }) (line_of call q xs ∷ lines))
           (sym same) (requests q lines couples.requests));
       told = unmoved_told call q given d lines (ap commands_in same ∙ none) couples.told;
+      ready = subst (λ (x : Mediator). BecomesReady (state_of x) (parts_of x) d (line_of call q given ∷ lines)) (sym is)
+          (line_ready (state_of m) (record (parts_of m) { client = c }) d (line_of call q given) lines on turn good
+          (others_ready (state_of m) (parts_of m) (record (parts_of m) { client = c }) d lines refl refl
+          couples.ready));
     }
 
 -- at power-on the guest sees the registers of power-on
@@ -253,4 +264,6 @@ stands_at_power_on area id buffers m suitable some begun = λ image disk memory 
       asked = subst (λ (c : Asking). WereAsked c lines) (sym begun.parts.client) (tt, tt);
       requests = started_requests (state_of m) p area.block lines on begun.parts.client;
       told = tt;
+      ready = started_ready area id buffers (state_of m) p (powered_on (stored disk) p.area.sectors) lines some
+          begun.state begun.parts on;
     }

@@ -12,3 +12,4 @@ pub mod Coupled
 pub mod Sources
 pub mod Between
 pub mod Requests
+pub mod Ready

@@ -20,6 +20,7 @@ use Rattle.monitor_state.specs.Requests.{HasRequests}
 use Rattle.monitor_state.specs.Sourced.{HasSources, WereAsked}
 use Rattle.mediator.specs.declared.mediator.Mediator.{Mediator}
 use Rattle.mediator.specs.Mediator.{client_of, parts_of, state_of}
+use Rattle.mediator.specs.Ready.{BecomesReady}
 
 -- a mediator, its drive and the guest's memory stand for a plain drive after these calls, over this image and, until
 -- opening has ended, over this disk
@@ -38,6 +39,8 @@ pub record Couples (k : Known) (m : Mediator) (d : Device) (memory : List ℕ) (
   pub requests : HasRequests (state_of m) (parts_of m) lines
   -- the command that the drive has in hand is the one that was told last
   pub told : IsTold d.file lines
+  -- the monitor becomes ready in time
+  pub ready : BecomesReady (state_of m) (parts_of m) d lines
 
 -- what the items of a call tell of a plain drive, over an image of so many sectors and the calls before:
 pub record GoesAlong (image : ℕ) (given : List Item) (q : Plain) (lines : List Line) : Type 0 where

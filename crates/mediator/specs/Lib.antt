@@ -1,3 +1,4 @@
 pub mod Mediator
 pub mod Emitted
+pub mod Ready
 pub mod Couples

@@ -16,5 +16,8 @@ mod mediator;
 mod restarting;
 
 pub use emitting::MOST_DUE;
-pub use laws::{a_destage_keeps_the_plain_drive, the_guests_memory_is_the_plain_drives};
+pub use laws::{
+    a_destage_keeps_the_plain_drive, a_monitor_is_ready_in_time,
+    the_guests_memory_is_the_plain_drives,
+};
 pub use mediator::Mediator;

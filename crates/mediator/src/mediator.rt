@@ -12,6 +12,7 @@ ghost use Rattle.aoe_client.specs.Asking.{HasTags, both_ticked, due_tags, next_s
 ghost use Rattle.aoe_client.specs.Messages.{request_frame};
 ghost use Rattle.guest_view.specs.View.{is_reset};
 ghost use Rattle.monitor_state.specs.Setup.{IsSetup};
+ghost use Rattle.monitor_state.specs.Opening.{OpensOnKept};
 ghost use Rattle.monitor_state.specs.Overlaid.{Known};
 ghost use Rattle.monitor_state.specs.State.{view_of};
 ghost use Rattle.monitor_access.specs.Seen.{IsAnswered};
@@ -43,8 +44,9 @@ use mon_pool::a_pool_is_whole;
 use monitor_access::accessed;
 use monitor_events::{heard, stepped};
 use monitor_state::{
-    NoMemory, Parts, Setup, State, asks_stay, clients_buffers_are_of_the_pool,
-    leases_go_back_in_order, same_asks_keep_the_fit,
+    NoMemory, Parts, Setup, State, a_good_step_ends_the_wait, asks_stay,
+    clients_buffers_are_of_the_pool, leases_go_back_in_order,
+    only_a_failed_step_raises_what_is_left, same_asks_keep_the_fit,
 };
 use monitor_turn::turned;
 use port_lease::power_on;
@@ -234,6 +236,9 @@ impl Mediator {
             → Reaches origin (P.device ports.new) }
     {
         buffers_are_whole(&self.parts);
+        next_is_on_kept(&self.parts);
+        only_a_failed_step_raises_what_is_left();
+        a_good_step_ends_the_wait();
         let state = mem::replace(&mut self.state, State::Moving);
         let (state, item) = stepped(state, &mut self.parts, ports, step, changed);
         mem::replace(&mut self.state, state).end(&mut self.parts.pool);
@@ -330,4 +335,11 @@ fn buffers_are_whole(parts: &Parts)
 {
     a_slot_has_a_blocks_tags(&parts.client);
     a_pool_is_whole(&parts.pool);
+}
+
+// The next job of opening, if there is one, is on the sectors that the monitor keeps.
+fn next_is_on_kept(parts: &Parts)
+    ensures { OpensOnKept parts.now }
+{
+    let _next = parts.opening.next();
 }

@@ -13,6 +13,8 @@ use Rattle.mediator.proofs.Coupled.{reached_told}
 use Rattle.mediator.proofs.Buffers.{buffers_over_cells}
 use Rattle.monitor_access.specs.Marks.{mark_over}
 use Rattle.streaming.specs.Monitor.{item_of}
+use Rattle.mediator.specs.Ready.{BecomesReady}
+use Rattle.mediator.proofs.Ready.{accessed_ready}
 use Rattle.mediator.proofs.Requests.{accessed_requests, asks_rightly, mark_asks_none, none_in_time}
 use Rattle.mediator.proofs.Sectors.{accessed_sectors}
 use Rattle.mediator.proofs.Sources.{gives_seen, line_goes_on, still_asked}
@@ -61,7 +63,8 @@ returns-clause-kept g c = λ k q lines couples none.
           (line_goes_on (gives_command c.args.access.now (file_seen c.replace-state.result d))
           (of_access c.args.access.now) q [] lines refl
           (gives_seen c.args.access.now c.replace-state.result c.args.self.now.parts d memory q shows))
-          (subst (λ t. HasSources t c.args.self.now.parts d lines) (sym c.replace-state.ensures.value) couples.sources));
+          (subst (λ t. HasSources t c.args.self.now.parts d lines) (sym c.replace-state.ensures.value)
+          couples.sources));
       asked = subst (λ (r : Parts). WereAsked r.client (line_of (of_access c.args.access.now) q [] ∷ lines))
           (sym call.ensures.others)
           (still_asked c.args.self.now.parts.client (of_access c.args.access.now) q [] lines refl couples.asked);
@@ -71,9 +74,16 @@ returns-clause-kept g c = λ k q lines couples none.
           d q [] lines (λ tag. refl) (ap (λ (r : Parts). r.client) call.ensures.others)
           (gives_seen c.args.access.now c.replace-state.result c.args.self.now.parts d memory q shows)
           call.ensures.requests
-          (subst (λ t. HasRequests t c.args.self.now.parts lines) (sym c.replace-state.ensures.value) couples.requests));
+          (subst (λ t. HasRequests t c.args.self.now.parts lines) (sym c.replace-state.ensures.value)
+          couples.requests));
       told = reached_told (of_access c.args.access.now) q [] d e lines call.ensures.reached
           (none_due d.file e.file call.ensures.commands) couples.told;
+      ready = left_as (λ t r. BecomesReady t r e (line_of (of_access c.args.access.now) q [] ∷ lines)) _ _ _ _ _
+          c.replace.ensures.after meanwhile c.end.ensures.given
+          (accessed_ready c.replace-state.result call.result.0 c.args.self.now.parts call.new.parts d e
+          (line_of (of_access c.args.access.now) q []) lines refl refl refl call.ensures.others call.ensures.stays
+          (subst (λ t. BecomesReady t c.args.self.now.parts d lines) (sym c.replace-state.ensures.value)
+          couples.ready));
     }
 
 pub returns-clause-asks : goal.returns-clause-asks

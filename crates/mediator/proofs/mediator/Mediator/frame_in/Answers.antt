@@ -11,6 +11,7 @@ use Rattle.monitor_state.specs.SameAsks.{BothAskTheSame}
 use Rattle.monitor_state.specs.Overlaid.{HasSectors}
 use Rattle.monitor_state.proofs.SourcesStay.{asking_asked, lines_keep}
 use Rattle.mediator.proofs.Coupled.{unmoved_told}
+use Rattle.mediator.proofs.Ready.{line_ready, others_ready}
 use Rattle.mediator.proofs.Requests.{asking, asks_along, heard_asks_none, heard_requests, none_in_time}
 use Rattle.mediator.proofs.Sectors.{client_sectors}
 use Rattle.mediator.proofs.Sources.{heard_come, line_goes_on, still_asked}
@@ -50,6 +51,11 @@ returns-clause-kept c = λ k d memory q lines given says honest couples.
           (subst (BothAskTheSame p.client) h.client c.heard.ensures.asks.asks) couples.requests));
       told = unmoved_told call q given d lines
           (ap commands_in same ∙ heard_untold mark c.heard.ensures.unmarked) couples.told;
+      ready =
+          let others = c.heard.ensures.heard.others in
+          line_ready c.args.self.now.state c.heard.new.parts d (line_of call q given) lines refl refl refl
+          (others_ready c.args.self.now.state c.args.self.now.parts c.heard.new.parts d lines
+          (ap (λ (r : Parts). r.area) others) (ap (λ (r : Parts). r.opening) others) couples.ready);
     }
 
 pub returns-clause-asks : goal.returns-clause-asks

@@ -1,4 +1,4 @@
-use Rattle.std.proofs.Common.{sym, subst}
+use Rattle.std.proofs.Common.{refl, sym, subst}
 use Rattle.aoe_client.specs.Asking.{Asking}
 use Rattle.aoe_client.specs.Buffers.{BothAskOn, BothHold}
 use Rattle.monitor_state.specs.Buffered.{image_part}
@@ -7,6 +7,7 @@ use Rattle.monitor_state.specs.SameAsks.{BothAskTheSame}
 use Rattle.monitor_state.proofs.SourcesStay.{asking_asked, asking_keeps}
 use Rattle.mediator.proofs.Buffers.{client_buffers}
 use Rattle.mediator.proofs.Coupled.{client_shown}
+use Rattle.mediator.proofs.Ready.{others_ready}
 use Rattle.mediator.proofs.Requests.{sent_requests}
 use Rattle.mediator.proofs.Sectors.{client_sectors}
 use Rattle.mediator.proofs.Standing.{same_asks}
@@ -43,4 +44,5 @@ returns-clause-kept c = λ k d memory q lines couples.
       requests = subst (λ (x : Asking). HasRequests s (record p { client = x }) lines) (sym c.next_send.ensures.after)
           (sent_requests s p lines (c.asks_stay.ensures.sent p.client) couples.requests);
       told = couples.told;
+      ready = others_ready s p (record p { client = c.next_send.new.self }) d lines refl refl couples.ready;
     }

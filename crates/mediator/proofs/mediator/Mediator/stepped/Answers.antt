@@ -22,6 +22,8 @@ use Rattle.mediator.specs.declared.mediator.Mediator.{Mediator}
 use Rattle.mediator.proofs.Coupled.{along_kept, reached_told}
 use Rattle.mediator.proofs.Buffers.{stepped_buffers_at}
 use Rattle.streaming.specs.Sources.{one_asks}
+use Rattle.mediator.specs.Ready.{BecomesReady}
+use Rattle.mediator.proofs.Ready.{stepped_ready}
 use Rattle.mediator.proofs.Requests.{asks_along, none_in_time, step_asks_none, stepped_requests}
 use Rattle.mediator.proofs.Sectors.{stepped_sectors_at}
 use Rattle.mediator.proofs.Sources.{still_asked}
@@ -106,6 +108,20 @@ returns-clause-kept g c = λ old now at come.
     c.stepped-state.ensures.view c.stepped-state.ensures.parts
     (subst (λ t. Fits t m.parts old.device) (sym c.replace-state.ensures.value) come.fits)
     (subst (λ t. HasRequests t m.parts lines) (sym c.replace-state.ensures.value) has))))
+    (λ q lines has.
+    let s = c.replace-state.result in
+    let here = subst (λ t. HasComeTo t m.parts c.args.step c.args.changed old now) (sym c.replace-state.ensures.value)
+    come in
+    left_as (λ t r. BecomesReady t r e (line_of call q (item_of told ++ []) ∷ lines)) _ _ _ _ _ c.replace.ensures.after
+    meanwhile c.end.ensures.given
+    (stepped_ready c.args.step c.args.changed s c.stepped-state.result.0 m.parts c.stepped-state.new.parts old now d e q
+    (item_of told ++ []) lines at c.stepped-state.ensures.stays c.stepped-state.ensures.parts
+    c.stepped-state.ensures.device here
+    (λ still made.
+    c.only_a_failed_step_raises_what_is_left.ensures.good s m.parts c.args.changed old now
+    c.next_is_on_kept.ensures still here.lawful here.fits made)
+    (λ still made. c.a_good_step_ends_the_wait.ensures s m.parts c.args.changed old now still here.fits made)
+    (subst (λ t. BecomesReady t m.parts old.device lines) (sym c.replace-state.ensures.value) has)))
 
 pub returns-clause-asks : goal.returns-clause-asks
 returns-clause-asks g c =

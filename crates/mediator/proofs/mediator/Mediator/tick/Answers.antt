@@ -31,7 +31,7 @@ returns-clause-kept c =
     c.push_asked.new.out.items.items refl c.push_asked.ensures.items (asked_commands tags)
     (λ source has. subst (λ (x : Asking). BothHold source x c.args.self.now.parts.pool) (sym c.tick.ensures.after)
     (c.buffers_outlast.ensures.ticks source c.args.self.now.parts.pool c.args.self.now.parts.client has))
-    refl (λ q. refl)
+    refl refl refl (λ q. refl)
     (subst (λ (x : Asking). BothAskOn c.args.self.now.parts.client x) (sym c.tick.ensures.after)
     (c.only_a_frame_answers_a_tag.ensures.ticks c.args.self.now.parts.client))
     (subst (λ (x : Asking). BothAskTheSame c.args.self.now.parts.client x) (sym c.tick.ensures.after)

@@ -1,10 +1,10 @@
-use Rattle.std.proofs.Common.{◌++◌, List, refl, sym, ap, ◌∙◌, subst}
+use Rattle.std.proofs.Common.{◌++◌, ◌∷◌, List, refl, sym, ap, ◌∙◌, subst}
 use Rattle.std.proofs.lemmas.List.{append_assoc}
 use Rattle.aoe_client.specs.Asking.{due_tags}
 use Rattle.plain_run.specs.Entry.{commands_in}
 use Rattle.plain_run.specs.Plan.{planned}
 use Rattle.schedule_text.specs.declared.Item.{Item}
-use Rattle.streaming.specs.Lines.{of_turn}
+use Rattle.streaming.specs.Lines.{line_of, of_turn}
 use Rattle.streaming.specs.Monitor.{asked_items, item_of}
 use Rattle.monitor_state.specs.Fits.{Fits}
 use Rattle.monitor_state.specs.GoesOn.{GoesOn}
@@ -16,6 +16,8 @@ use Rattle.monitor_state.specs.Sourced.{KeepsSources}
 use Rattle.mediator.specs.declared.mediator.Mediator.{Mediator}
 use Rattle.mediator.proofs.Coupled.{along_kept, reached_told}
 use Rattle.mediator.proofs.Buffers.{buffers_over_cells}
+use Rattle.mediator.specs.Ready.{BecomesReady}
+use Rattle.mediator.proofs.Ready.{turned_ready}
 use Rattle.mediator.proofs.Requests.{asks_along, turned_requests}
 use Rattle.mediator.proofs.Sectors.{turned_cells, turned_sectors}
 use Rattle.mediator.proofs.Sources.{turned_asked}
@@ -88,6 +90,13 @@ returns-clause-kept g c =
     (left_as (λ t r. KeepsRequests m.state m.parts t r) _ _ _ _ _ c.replace.ensures.after meanwhile c.end.ensures.given
     (subst (λ t. KeepsRequests t m.parts c.turned-state.result.0 c.turned-state.new.parts)
     c.replace-state.ensures.value c.turned-state.ensures.requests)) has)
+    (λ q lines has.
+    left_as (λ t r. BecomesReady t r e (line_of of_turn q (item_of told ++ asked_items tags) ∷ lines)) _ _ _ _ _
+    c.replace.ensures.after meanwhile c.end.ensures.given
+    (turned_ready c.replace-state.result c.turned-state.result.0 m.parts c.turned-state.new.parts d e told
+    (asked_items tags) q lines c.turned-state.ensures.image c.turned-state.ensures.ready c.turned-state.ensures.progress
+    c.turned-state.ensures.holds
+    (subst (λ t. BecomesReady t m.parts d lines) (sym c.replace-state.ensures.value) has)))
 
 pub returns-clause-asks : goal.returns-clause-asks
 returns-clause-asks g c =
