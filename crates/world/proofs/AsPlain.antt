@@ -1,6 +1,7 @@
 -- An event under a monitor is one of the plain drive that it stands for.
 use Rattle.std.proofs.Common.{◌≡◌, ℕ, true, false, List, [], ◌∷◌, Option, refl, sym, ap, ◌∙◌, arith}
 use Rattle.aoe_net.specs.Wire.{Wire}
+use Rattle.fill_bitmap.specs.Area.{bitmap_sectors_of}
 use Rattle.plain_drive.specs.Physical.{Physical}
 use Rattle.plain_drive.specs.Plain.{Plain}
 use Rattle.schedule_text.specs.declared.Event.{Event}
@@ -15,6 +16,7 @@ use Rattle.plain_run.proofs.Guest.{memory_due, words_due}
 use Rattle.plain_run.proofs.Plans.{planned_is_followed}
 use Rattle.streaming.specs.Asks.{AsksSeldom}
 use Rattle.streaming.specs.Built.{is_built}
+use Rattle.streaming.specs.Helpful.{IsReadyInTime}
 use Rattle.streaming.specs.Lines.{Line}
 use Rattle.streaming.specs.Monitor.{MayTellUnder, MonitorEvent, Watched, answer_if, item_of, reads}
 use Rattle.streaming.proofs.Lines.{event_answers, event_plan}
@@ -26,7 +28,8 @@ use Rattle.world.specs.Keeping.{HasKept}
 use Rattle.world.proofs.EventLaws.{write_due}
 
 -- an event has an answer where the guest reads in it
-answered_where_read : (one : Event) (q : Plain) → IsInRange one → answer_items (answer_due one q) ≡ answer_if (reads one)
+answered_where_read : (one : Event) (q : Plain) → IsInRange one
+    → answer_items (answer_due one q) ≡ answer_if (reads one)
 answered_where_read (event.Read8 reg) q range = refl
 answered_where_read (event.Write8 reg v) q range = refl
 answered_where_read (event.ReadWords n) q range = ap answer_items (words_due n q range.0)
@@ -84,8 +87,9 @@ pub as_plain : (one : Event) (wire : Wire) (k : Known) (m n : Mediator) (p r : P
     (bytes : List ℕ) (q : Plain) (lines : List Line) (told : Option Item) (old new : Watched) → IsInRange one
     → is_built one ≡ true → MonitorEvent wire told old (entry_of one items bytes) new
     → HasKept one wire k m p items bytes n r q lines → (later : List Line) → AsksSeldom later
-    → IsAsPlain (parts_of m).area.image q lines (entry_of one items bytes) later
-as_plain one wire k m n p r items bytes q lines told old new range built monitored kept later seldom = record {
+    → IsReadyInTime (parts_of m).area.block (bitmap_sectors_of (parts_of m).area) later
+    → IsAsPlain (parts_of m).area q lines (entry_of one items bytes) later
+as_plain one wire k m n p r items bytes q lines told old new range built monitored kept later seldom ready = record {
   plain = record {
     answered = event_answers wire told old new (entry_of one items bytes) monitored
         ∙ sym (answered_where_read one q range);
@@ -101,4 +105,5 @@ as_plain one wire k m n p r items bytes q lines told old new range built monitor
   spares = kept.goes.spares;
   asks = kept.asks;
   seldom = seldom;
+  ready = ready;
 }

@@ -34,7 +34,7 @@ use Rattle.mediator.specs.declared.mediator.Mediator.{Mediator}
 use Rattle.mediator.specs.Couples.{Couples, GoesAlong, KeepsHeard}
 use Rattle.mediator.specs.Mediator.{client_of, parts_of, state_of}
 use Rattle.world.specs.Acting.{delivered}
-use Rattle.world.specs.Coupled.{effect_in, is_marked}
+use Rattle.world.specs.Coupled.{effect_in, closes}
 use Rattle.world.specs.Keeping.{HasKept, IsHonestIfAny, KeepsEvent, StandBy}
 
 -- items that tell of no step, of no command and of no request
@@ -140,7 +140,7 @@ pub stray_kept : (frame : List ℕ) (wire : Wire) (m n : Mediator) (p : Physical
     → KeepsHeard frame true [] items m n → KeepsEvent (event.Stray ToClient frame) wire m p items [] n p
 stray_kept frame wire m n p items marked unmarked heard not k q lines honest stand =
     let ignores : ¬ TakesFrame frame (client_of m) = λ takes.
-    true≢false (sym (ap is_marked (marked takes)) ∙ not) in
+    true≢false (sym (ap closes (marked takes)) ∙ not) in
     quiet_kept (event.Stray ToClient frame) wire k m n p p items [] q lines (ap is_quiet (unmarked ignores)) refl
     (heard k (seen p).device p.memory q lines items refl (λ tag takes. absurd (ignores (tag, takes))) stand)
 
@@ -174,7 +174,8 @@ none_told one wire k m n p r items bytes q lines none silent kept =
     (subst (λ list. HasKept one wire k m p [] list n r q lines) (sym silent) kept)
 
 -- a step that is told by its effect
-pub step_told : (k : Known) (m : Mediator) (d : Device) (memory : List ℕ) (next q : Plain) (lines : List Line) (s : Step)
+pub step_told : (k : Known) (m : Mediator) (d : Device) (memory : List ℕ) (next q : Plain) (lines : List Line)
+    (s : Step)
     (told effect : Stepped) (items : List Item) → told ≡ effect
     → Couples k m d memory next (line_of (of_step s told) q items ∷ lines)
     → Couples k m d memory next (line_of (of_step s effect) q items ∷ lines)
@@ -183,21 +184,22 @@ step_told k m d memory next q lines s told effect items is =
 
 -- where an access isn't marked in the items, it isn't for the plain drive that the guest sees
 unmarked : (takes refused : Bool)
-    → is_marked (item_of (if takes then (if refused then Some Reserved else None) else None)) ≡ false
+    → closes (item_of (if takes then (if refused then Some Reserved else None) else None)) ≡ false
     → (if takes then (if refused then Some Reserved else None) else None) ≡ None
 unmarked true true not = absurd cc
 unmarked true false not = refl
 unmarked false refused not = refl
 
 -- the items of an access that isn't marked are none
-pub unmarked_none : (f : TaskFile) (p : Parts) (a : Access) → is_marked (item_of (mark_over f p a)) ≡ false
+pub unmarked_none : (f : TaskFile) (p : Parts) (a : Access) → closes (item_of (mark_over f p a)) ≡ false
     → mark_over f p a ≡ None
 unmarked_none f p a not = unmarked (takes_command a f) (is_refused (order_written a f p.area.sectors) p) not
 
 -- an access that takes no command has no mark
 pub untaken_none : (f : TaskFile) (p : Parts) (a : Access) → takes_command a f ≡ false → mark_over f p a ≡ None
 untaken_none f p a untaken =
-    ap (λ takes. if takes then (if is_refused (order_written a f p.area.sectors) p then Some Reserved else None) else None)
+    ap (λ takes. if takes then (if is_refused (order_written a f p.area.sectors) p then Some Reserved else None)
+    else None)
     untaken
 
 -- an access that isn't marked over the registers that the guest sees isn't for the plain drive

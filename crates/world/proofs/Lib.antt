@@ -6,6 +6,8 @@ pub mod Acting
 pub mod Sending
 pub mod Deploying
 pub mod Marked
+pub mod Refused
+pub mod Cuts
 pub mod Starting
 pub mod Keeping
 pub mod KeptEvents

@@ -21,7 +21,7 @@ use Rattle.mediator.specs.Couples.{Couples, GoesAlong, IsHonestTo}
 use Rattle.mediator.specs.Mediator.{parts_of}
 use Rattle.world.specs.Acting.{delivered}
 use Rattle.streaming.specs.Sources.{one_asks}
-use Rattle.world.specs.Coupled.{MayAskIn, effect_in, is_marked}
+use Rattle.world.specs.Coupled.{MayAskIn, effect_in, closes}
 use Rattle.world.specs.Deployed.{watched_of}
 use Rattle.world.specs.WorldState.{WorldState}
 
@@ -75,6 +75,6 @@ pub record HasKept (one : Event) (wire : Wire) (k : Known) (m : Mediator) (p : P
 -- an event without a mark keeps each plain drive for which they stand, where the reply that it delivers is honest
 abbrev pub KeepsEvent : Event → Wire → Mediator → Physical → List Item → List ℕ → Mediator → Physical
     → Type 0
-KeepsEvent one wire m p items bytes n r = is_marked items ≡ false → (k : Known) (q : Plain)
+KeepsEvent one wire m p items bytes n r = closes items ≡ false → (k : Known) (q : Plain)
     (lines : List Line) → IsHonestIfAny k.image m (delivered one wire) → StandBy k m p q lines
     → HasKept one wire k m p items bytes n r q lines

@@ -10,7 +10,7 @@ ghost use Rattle.monitor_access.specs.Marks.{mark_due};
 ghost use Rattle.mediator.specs.Mediator.{parts_of, state_of};
 ghost use Rattle.streaming.specs.Monitor.{item_of};
 ghost use Rattle.world.specs.Acting.{HasAccessed};
-ghost use Rattle.world.specs.Coupled.{is_marked};
+ghost use Rattle.world.specs.Coupled.{closes};
 ghost use Rattle.world.specs.Deployed.{IsReady, watched_of};
 ghost use Rattle.world.specs.Keeping.{AnswersAccess, AnswersAccesses, KeepsAccess, KeepsAccesses};
 ghost use Rattle.world.specs.Machine.{device, physical};
@@ -40,6 +40,7 @@ pub(crate) fn read(
     ensures kept { KeepsAccesses (access.now ∷ []) mediator.old (physical machine.old)
         mediator.new (physical machine.new) }
     ensures area { (parts_of mediator.new).area ≡ (parts_of mediator.old).area }
+    ensures id { (parts_of mediator.new).id ≡ (parts_of mediator.old).id }
     ensures ready { IsReady mediator.new (device machine.new) }
 {
     let answer = make(mediator, machine, access, out);
@@ -62,9 +63,10 @@ pub(crate) fn write(
     ensures items { out.new.items.items ≡ item_of (mark_due (state_of mediator.old)
         (parts_of mediator.old) (device machine.old) access.now) }
     ensures bytes { out.new.bytes ≡ out.old.bytes }
-    ensures kept { is_marked out.new.items.items ≡ false → KeepsAccesses (access.now ∷ [])
+    ensures kept { closes out.new.items.items ≡ false → KeepsAccesses (access.now ∷ [])
         mediator.old (physical machine.old) mediator.new (physical machine.new) }
     ensures area { (parts_of mediator.new).area ≡ (parts_of mediator.old).area }
+    ensures id { (parts_of mediator.new).id ≡ (parts_of mediator.old).id }
     ensures ready { IsReady mediator.new (device machine.new) }
 {
     make(mediator, machine, access, out);
@@ -85,6 +87,7 @@ pub(crate) fn read_words(mediator: &mut Mediator, machine: &mut Machine, n: u32,
     ensures kept { KeepsAccesses (replicate n Access.ReadWord) mediator.old
         (physical machine.old) mediator.new (physical machine.new) }
     ensures area { (parts_of mediator.new).area ≡ (parts_of mediator.old).area }
+    ensures id { (parts_of mediator.new).id ≡ (parts_of mediator.old).id }
     ensures ready { IsReady mediator.new (device machine.new) }
 {
     for _i in 0..n {
@@ -111,6 +114,7 @@ pub(crate) fn write_words(
     ensures kept { KeepsAccesses (map (λ w. Access.WriteWord w) (words_of bytes.now))
         mediator.old (physical machine.old) mediator.new (physical machine.new) }
     ensures area { (parts_of mediator.new).area ≡ (parts_of mediator.old).area }
+    ensures id { (parts_of mediator.new).id ≡ (parts_of mediator.old).id }
     ensures ready { IsReady mediator.new (device machine.new) }
 {
     let mut left = bytes;
@@ -140,6 +144,7 @@ fn make(
     ensures kept { KeepsAccess access.now mediator.old (physical machine.old)
         mediator.new (physical machine.new) }
     ensures area { (parts_of mediator.new).area ≡ (parts_of mediator.old).area }
+    ensures id { (parts_of mediator.new).id ≡ (parts_of mediator.old).id }
     ensures ready { IsReady mediator.new (device machine.new) }
 {
     mediator.access(&mut machine.drive, &mut machine.memory, access, out)

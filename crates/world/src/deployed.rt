@@ -115,6 +115,7 @@ fn act(
         → KeepsEvent event.now wire mediator.old (physical machine.old) out.new.items.items
         out.new.bytes.items mediator.new (physical machine.new) }
     ensures area { (parts_of mediator.new).area ≡ (parts_of mediator.old).area }
+    ensures id { (parts_of mediator.new).id ≡ (parts_of mediator.old).id }
     ensures fits { FitsDrive mediator.new (device machine.new) }
     ensures still { IsStill mediator.new (device machine.new) }
 {
@@ -160,6 +161,7 @@ fn deliver(mediator: &mut Mediator, frame: &Option<Frame>, out: &mut Emitted)
         → frame.now ≡ delivered (Event.Deliver way place keep) wire
         → KeepsEvent (Event.Deliver way place keep) wire mediator.old p [] [] mediator.new p }
     ensures area { (parts_of mediator.new).area ≡ (parts_of mediator.old).area }
+    ensures id { (parts_of mediator.new).id ≡ (parts_of mediator.old).id }
     ensures sent { due_tags (client_of mediator.new) ≡ [] }
     ensures opened { is_opened_in mediator.new ≡ is_opened_in mediator.old }
     ensures fits { (d : Device) → FitsDrive mediator.old d → FitsDrive mediator.new d }
@@ -181,6 +183,7 @@ fn stray(mediator: &mut Mediator, way: Way, frame: &Frame, out: &mut Emitted)
     ensures kept { (wire : Wire) (p : Physical) → KeepsEvent (Event.Stray way frame.now) wire
         mediator.old p out.new.items.items [] mediator.new p }
     ensures area { (parts_of mediator.new).area ≡ (parts_of mediator.old).area }
+    ensures id { (parts_of mediator.new).id ≡ (parts_of mediator.old).id }
     ensures fits { (d : Device) → FitsDrive mediator.old d → FitsDrive mediator.new d }
     ensures state { state_of mediator.new ≡ state_of mediator.old }
 {
@@ -201,6 +204,7 @@ fn make_step(mediator: &mut Mediator, machine: &mut Machine, step: Step, out: &m
     ensures kept { (wire : Wire) → KeepsEvent (Event.Drive step) wire mediator.old
         (physical machine.old) out.new.items.items [] mediator.new (physical machine.new) }
     ensures area { (parts_of mediator.new).area ≡ (parts_of mediator.old).area }
+    ensures id { (parts_of mediator.new).id ≡ (parts_of mediator.old).id }
     ensures fits { FitsDrive mediator.new (device machine.new) }
     ensures still { IsStill mediator.new (device machine.new) }
 {

@@ -15,6 +15,7 @@ mod deployed;
 mod disk;
 mod events;
 mod fault;
+mod laws;
 mod machine;
 mod network;
 #[cfg(test)]
@@ -22,4 +23,5 @@ mod tests;
 mod world;
 
 pub use fault::{HostFault, StartFault};
+pub use laws::durable_sectors_are_the_plain_drives;
 pub use world::World;

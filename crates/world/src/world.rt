@@ -100,7 +100,8 @@ impl World {
         ensures disk { IfOk result (λ world. IfTold ((H.outside host.old).told Disk)
             (λ bytes. world.scene.drive.kept.durable ≡ sectors_in setup.now.area.sectors bytes)) }
 
-        // A world with an image stands for the plain drive that begins with what a guest finds on the disk.
+        // A world with an image that is told stands for the plain drive that begins with what a guest finds on the
+        // disk.
         ensures stands { IfOk result (BeginsOver ((H.outside host.old).told Image)
             setup.now.area setup.now.id) }
         ensures fault { FailsAtStart result (H.outside host.old) (H.outside host.new) }
@@ -146,8 +147,8 @@ impl World {
         ensures reserved { OnOk result ((m : MediatorOf) → self.old.mediator ≡ Some m
             → IsMarkedRight event.now m self.old.scene.drive out.new.items.items) }
 
-        // Each plain drive for which the world stands it goes on to stand for, up to a mark: what is told is that
-        // drive's, and what it reads for the guest came from the drive or from the image's server.
+        // Each plain drive for which the world stands it goes on to stand for, up to a closing mark: what is told is
+        // that drive's, and what it reads for the guest came from the drive or from the image's server.
         ensures kept { OnOk result (IfTold ((H.outside host.old).told Image) (λ image.
             KeepsPlain image self.old
             (entry_of event.now out.new.items.items out.new.bytes.items) self.new)) }

@@ -10,3 +10,6 @@ returns-clause-kept c = λ k q lines stand unmarked. c.access.ensures.kept k q l
 
 pub returns-clause-area : goal.returns-clause-area
 returns-clause-area c = ap (λ (p : Parts). p.area) c.access.ensures.others
+
+pub returns-clause-id : goal.returns-clause-id
+returns-clause-id c = ap (λ (p : Parts). p.id) c.access.ensures.others

@@ -41,6 +41,7 @@ loop-i-preserved c =
           (then_kept done (ReadWord ∷ []) m n o p r s was.kept
           (λ k q lines stand. one.kept k q lines stand (untaken_none q.device.file (parts_of n) ReadWord refl)));
       area = one.area ∙ was.area;
+      id = one.id ∙ was.id;
     }
 
 pub returns-clause-kept : goal.returns-clause-kept
@@ -48,3 +49,9 @@ returns-clause-kept c =
     let all : c.loop-i._i ≡ c.args.n = omega (arith, c.loop-i-test.false, c.loop-i.auto._i-end) in
     subst (λ n. KeepsAccesses (replicate n ReadWord) c.args.mediator.now (physical c.args.machine.now)
     c.loop-i.mediator (physical c.loop-i.machine)) all c.loop-i.invariant.kept
+
+pub returns-clause-answered : goal.returns-clause-answered
+returns-clause-answered c =
+    let all : c.loop-i._i ≡ c.args.n = omega (arith, c.loop-i-test.false, c.loop-i.auto._i-end) in
+    subst (λ n. AnswersAccesses (replicate n ReadWord) c.args.mediator.now (physical c.args.machine.now)
+    c.loop-i.out.bytes.items) all c.loop-i.invariant.answered

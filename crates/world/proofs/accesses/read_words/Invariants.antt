@@ -20,4 +20,5 @@ invariant-loop-i l = record {
   kept : KeepsAccesses (replicate l._i ReadWord) l.fn.mediator (physical l.fn.machine) l.mediator
       (physical l.machine);
   area : (parts_of l.mediator).area ≡ (parts_of l.fn.mediator).area;
+  id : (parts_of l.mediator).id ≡ (parts_of l.fn.mediator).id;
 }

@@ -35,6 +35,7 @@ loop-left-preserved c =
       kept = then_kept was.made (WriteWord word ∷ []) m n o p r s was.kept
           (λ k q lines stand. one.kept k q lines stand (untaken_none q.device.file (parts_of n) (WriteWord word) refl));
       area = one.area ∙ was.area;
+      id = one.id ∙ was.id;
     }
 
 pub returns-clause-kept : goal.returns-clause-kept

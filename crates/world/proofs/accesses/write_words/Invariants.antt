@@ -22,6 +22,7 @@ invariant-loop-left l = record {
   whole : map (λ w. WriteWord w) (words_of l.fn.bytes) ≡ made ++ map (λ w. WriteWord w) (words_of l.left);
   kept : KeepsAccesses made l.fn.mediator (physical l.fn.machine) l.mediator (physical l.machine);
   area : (parts_of l.mediator).area ≡ (parts_of l.fn.mediator).area;
+  id : (parts_of l.mediator).id ≡ (parts_of l.fn.mediator).id;
 }
 
 abbrev pub decreases-loop-left : goal.decreases-loop-left

@@ -27,8 +27,13 @@ returns-clause-kept g c =
     c.send_all.new.mediator (physical c.args.machine.now) (physical c.act.new.machine) c.args.net.now c.send_all.new.net
     c.args.event.now c.act.new.out.items.items c.act.new.out.bytes.items event_is.count event_is.monitored.told
     c.requires.in_range c.requires.built event_is.monitored.monitor event_is.network
+    (marked_right c.args.net.now c.args.mediator.now (physical c.args.machine.now) (physical c.act.new.machine)
+    (watched_of c.args.mediator.now) (watched_of c.act.new.mediator) c.act.new.out.items.items c.args.event.now
+    (c.act.ensures.acted c.args.net.now c.in-Ok.ensures.frame) c.act.ensures.written)
     (c.act.ensures.kept c.args.net.now c.in-Ok.ensures.frame)
     (ap (λ (m : Mediator). (parts_of m).area) c.send_all.ensures.after ∙ c.act.ensures.area)
+    (ap (λ (m : Mediator). (parts_of m).id) c.send_all.ensures.after ∙ c.act.ensures.id)
+    (c.send_all.ensures.fits _ c.act.ensures.fits)
     (λ k q lines stand. c.send_all.ensures.kept k _ _ q lines stand)
 
 pub returns-clause-ready : goal.returns-clause-ready

@@ -14,3 +14,6 @@ returns-in_default-clause-kept c = λ way place keep wire p is.
 
 pub returns-in-Some-clause-area : goal.returns-in-Some-clause-area
 returns-in-Some-clause-area c = ap (λ (p : Parts). p.area) c.frame_in.ensures.heard.others
+
+pub returns-in-Some-clause-id : goal.returns-in-Some-clause-id
+returns-in-Some-clause-id c = ap (λ (p : Parts). p.id) c.frame_in.ensures.heard.others

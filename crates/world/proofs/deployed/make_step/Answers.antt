@@ -60,3 +60,6 @@ returns-clause-kept c = λ wire not k q lines honest stand.
 
 pub returns-clause-area : goal.returns-clause-area
 returns-clause-area c = ap (λ (q : Parts). q.area) c.stepped.ensures.others
+
+pub returns-clause-id : goal.returns-clause-id
+returns-clause-id c = ap (λ (q : Parts). q.id) c.stepped.ensures.others

@@ -32,3 +32,6 @@ returns-in-ToServer-clause-kept c = λ wire p not k q lines honest stand.
 
 pub returns-in-ToClient-clause-area : goal.returns-in-ToClient-clause-area
 returns-in-ToClient-clause-area c = ap (λ (p : Parts). p.area) c.frame_in.ensures.heard.others
+
+pub returns-in-ToClient-clause-id : goal.returns-in-ToClient-clause-id
+returns-in-ToClient-clause-id c = ap (λ (p : Parts). p.id) c.frame_in.ensures.heard.others

@@ -19,8 +19,8 @@ returns-in-None-clause-event g c =
 pub returns-in-None-clause-kept : goal.returns-in-None-clause-kept
 returns-in-None-clause-kept g c =
     rw (← c.self.view_is) (on_ok c.alone.result
-    (λ one. IfTold-all ((g.H.Host.outside c.args.host.now).told Image) _ (λ image not k q lines stands.
-    absurd (no_stands image k c.self.inside.mediator _ q lines c.in-None.is stands)))
+    (λ one. IfTold-all ((g.H.Host.outside c.args.host.now).told Image) _ (λ image deployed of k q lines stands.
+    absurd (no_stands deployed k c.self.inside.mediator _ q lines c.in-None.is stands)))
     c.alone.ensures.event)
 
 pub returns-in-Some-clause-kept : goal.returns-in-Some-clause-kept
@@ -28,6 +28,7 @@ returns-in-Some-clause-kept g c =
     rw (← c.self.view_is) (on_ok c.apply.result
     (λ told. IfTold-weaker ((g.H.Host.outside c.args.host.now).told Image) _ _ (λ image kept.
     kept_in image c.self.inside.image (physical c.self.inside.machine) c.self.inside.net c.self.inside.mediator
-    c.in-Some.mediator _ (world_of c.self.inside.image c.apply.new.mediator (physical c.apply.new.machine) c.apply.new.net)
+    c.in-Some.mediator _
+    (world_of c.self.inside.image c.apply.new.mediator (physical c.apply.new.machine) c.apply.new.net)
     c.in-Some.is kept) told)
     c.apply.ensures.kept)

@@ -11,8 +11,8 @@ returns-clause-stands g c =
     let own = c.in-Ok-monitor_over in
     record {
       stands = IfTold-weaker ((g.H.Host.outside c.args.host.now).told Image) _ _
-          (λ image enough some. begins_as_plain setup.area setup.id c.args.memory image
-          (physical c.in_ok-machine.machine) enough loaded.began loaded.count own.mediator own.ensures.stands
-          own.ensures.watched c.in-Ok.net c.in-Ok.ensures some)
+          (λ image enough some. begins_as_plain (record { area = setup.area; id = setup.id; image = image })
+          c.args.memory (physical c.in_ok-machine.machine) enough loaded.began loaded.count own.mediator
+          own.ensures.stands own.ensures.sound own.ensures.watched c.in-Ok.net c.in-Ok.ensures some)
           c.requires.image;
     }
