@@ -5,6 +5,7 @@ pub mod Reporting
 pub mod Lines
 pub mod StopLaws
 pub mod Looks
+pub mod GuestRuns
 pub mod KnownOnce
 pub mod EventLaws
 pub mod PlayedLaws

@@ -1,5 +1,5 @@
 -- A whole run, from its steps.
-use Rattle.std.proofs.Common.{◌≡◌, ◌*◌, ◌/◌, ◌++◌, ◌≤◌, ℕ, List, [], length, take, All, replicate, refl, sym, ◌∙◌, ap, subst, inl, arith, length-take}
+use Rattle.std.proofs.Common.{◌≡◌, ◌*◌, ◌/◌, ◌++◌, ◌≤◌, ◌<◌, ℕ, List, [], length, take, All, replicate, refl, sym, ◌∙◌, ap, subst, inl, arith, length-take}
 use Rattle.std.proofs.Math.ListN.{drop_of_length-le}
 use Rattle.bm_host.specs.declared.Role.TheVariants.{Image, Disk, Schedule, Report, Out, Console}
 use Rattle.bm_host.specs.Outside.{Outside, IfTold, SameBytes, SameElsewhere}
@@ -23,27 +23,33 @@ use Rattle.bmcast.specs.declared.streams.Streams.{Streams}
 use Rattle.bmcast.specs.Streams.{unread, Appends, KeepsSaid}
 use Rattle.bmcast.specs.Known.{IsRefused, IsTaken}
 use Rattle.bmcast.specs.Played.{Begun, HasPlayed, HasEnded, HasFailed, IsReported, IsStopped}
-use Rattle.bmcast.specs.Run.{WasRun, DoneRun, BadLineRun, RunIsBad, plain_over, sectors_of_disk}
+use Rattle.world.specs.Coupled.{BeginsAsPlain, BeginsOver}
+use Rattle.world.specs.WorldState.{WorldState}
+use Rattle.bmcast.specs.Guest.{HasGuestRun}
+use Rattle.bmcast.specs.GuestRuns.{GuestRuns}
+use Rattle.bmcast.specs.Run.{WasRun, DoneRun, BadLineRun, RunIsBad, deployment_of, plain_over, sectors_of_disk}
 use Rattle.bmcast.specs.Files.{IsLeft, IsOpened, LeavesFiles}
 use Rattle.bmcast.specs.Kept.{KeepsAllFiles, KeepsFiles}
 use Rattle.bmcast.specs.Lengths.{HasLength, IsAreaOf}
+use Rattle.bmcast.proofs.GuestRuns.{guest_has, guests_none}
 use Rattle.bmcast.proofs.Looks.{looks_on, looks_since}
 use Rattle.bmcast.specs.declared.Status.TheVariants as status
 use Rattle.block_writes.proofs.Told.{IfTold-weaker, IfTold-all, IfTold-both, IfTold-same}
 use Rattle.block_writes.proofs.WaitingLaws.{Waits-none, Waits-all}
 
 -- a run begins
-abbrev pub begun_at : Scene → Outside → Begun
-begun_at scene outside = record { scene = scene; outside = outside }
+abbrev pub begun_at : WorldState → Outside → Begun
+begun_at world outside = record { world = world; outside = outside }
 
 -- before the first line
-played_none : (s : Streams) (o : Outside) (p : Scene) → IsOpened o → s.pending.items ≡ []
+played_none : (s : Streams) (o : Outside) (p : WorldState) → IsOpened o → s.pending.items ≡ []
     → s.at ≡ s.end → HasPlayed (begun_at p o) s o p 1
 played_none s o p ready none taken = record {
   entries = [];
   played = record {
     count = 0;
     run = (refl, refl);
+    guests = guests_none (o.told Image) p;
     known = tt;
     looked = record { most = omega arith; none = λ e. refl };
     said = Waits-none Report o s.pending.items none ready.report;
@@ -59,7 +65,7 @@ played_none s o p ready none taken = record {
         rw (drop_of_length-le (take s.end s.block) short, ready.given) refl
 
 -- the schedule was played, and its report written
-pub reported : (s0 s1 s2 s3 : Streams) (o0 o1 o2 o3 : Outside) (before after : Scene) (number : ℕ)
+pub reported : (s0 s1 s2 s3 : Streams) (o0 o1 o2 o3 : Outside) (before after : WorldState) (number : ℕ)
     → IsOpened o0 → s0.pending.items ≡ [] → s0.at ≡ s0.end
     → ((start : Begun) → HasPlayed start s0 o0 before 1 → HasEnded start s1 o1 after number)
     → KeepsFiles o0 o1 → KeepsLooked o1 o2 → KeepsLooked o2 o3
@@ -71,7 +77,9 @@ reported s0 s1 s2 s3 o0 o1 o2 o3 before after number ready none taken ended file
     record {
       entries = h.entries;
       count = h.played.count;
-      run = subst (λ told. IsSceneRun told before h.entries after h.played.count) (files Image (λ e. cc)) h.played.run;
+      run = subst (λ told. IsSceneRun told before.scene h.entries after.scene h.played.count) (files Image (λ e. cc))
+          h.played.run;
+      guests = subst (λ told. GuestRuns told before h.entries after) (files Image (λ e. cc)) h.played.guests;
       looked = looks_on h.played.count o0 o1 o3 (unlooked ∙ looked) h.played.looked;
       schedule = IfTold-same _ (files Schedule (λ e. cc))
           (IfTold-weaker (o1.told Schedule) _ _ (λ text whole. (whole, h.played.known)) h.schedule);
@@ -81,7 +89,7 @@ reported s0 s1 s2 s3 o0 o1 o2 o3 before after number ready none taken ended file
     }
 
 -- the schedule was played to its first line that is refused, and the report before it is written
-pub stopped : (s0 s1 : Streams) (o0 o1 : Outside) (before after : Scene) (number : ℕ) (kind : LineFault)
+pub stopped : (s0 s1 : Streams) (o0 o1 : Outside) (before after : WorldState) (number : ℕ) (kind : LineFault)
     → IsOpened o0 → s0.pending.items ≡ [] → s0.at ≡ s0.end
     → ((start : Begun) → HasPlayed start s0 o0 before 1 → HasFailed start s1 o1 after number kind)
     → KeepsFiles o0 o1 → s1.pending.items ≡ []
@@ -91,7 +99,9 @@ stopped s0 s1 o0 o1 before after number kind ready none taken failed files empty
     record {
       entries = h.entries;
       count = h.played.count;
-      run = subst (λ told. IsSceneRun told before h.entries after h.played.count) (files Image (λ e. cc)) h.played.run;
+      run = subst (λ told. IsSceneRun told before.scene h.entries after.scene h.played.count) (files Image (λ e. cc))
+          h.played.run;
+      guests = subst (λ told. GuestRuns told before h.entries after) (files Image (λ e. cc)) h.played.guests;
       looked = h.played.looked;
       schedule = IfTold-same _ (files Schedule (λ e. cc)) h.fails;
       report = Waits-all Report o1 s1.pending.items (history_text h.entries) empty h.played.said;
@@ -107,30 +117,50 @@ read_disk = (λ e. cc, λ e. cc)
 read_schedule : IsLeft status.Done Schedule
 read_schedule = (λ e. cc, λ e. cc)
 
--- the world was started over the disk's sectors, with the block and memory of a choice and an image of so many sectors
-pub record IsStarted (choice : Choice) (image : ℕ) (o : Outside) (before : Scene) : Type 0 where
-  pub began : before ≡ started choice.sizes.block choice.sizes.memory image before.drive.kept.durable
-  pub sectors : All (λ sector. length sector ≡ 512) before.drive.kept.durable
-  pub disk : IfTold (o.told Disk) (λ disk. before.drive.kept.durable ≡ sectors_of_disk disk)
+-- the world was started over the disk's sectors, with the numbers of a choice and an image of so many sectors
+pub record IsStarted (choice : Choice) (image : ℕ) (o : Outside) (before : WorldState) : Type 0 where
+  pub began : before.scene ≡ started choice.sizes.block choice.sizes.memory image before.scene.drive.kept.durable
+  pub sectors : All (λ sector. length sector ≡ 512) before.scene.drive.kept.durable
+  pub disk : IfTold (o.told Disk) (λ disk. before.scene.drive.kept.durable ≡ sectors_of_disk disk)
   pub image_length : HasLength Image o (512 * image)
+  pub begins : IfTold (o.told Image) (λ bytes. 0 < image
+      → BeginsAsPlain (deployment_of choice image (length before.scene.drive.kept.durable) bytes) before)
 
--- the world was started over the files of this area
-pub started_over : (choice : Choice) (area : Area) (o1 o2 : Outside) (before : Scene)
-    → LeavesFiles status.Done o1 o2 → IsAreaOf choice area o1
-    → before ≡ started area.block choice.sizes.memory area.image before.drive.kept.durable
-    → All (λ sector. length sector ≡ 512) before.drive.kept.durable
-    → IfTold (o2.told Disk) (λ disk. before.drive.kept.durable ≡ sectors_in area.sectors disk)
+-- the world was started over the files of this area, for the run of a choice
+pub started_over : (choice : Choice) (area : Area) (id : ℕ) (o1 o2 : Outside) (before : WorldState)
+    → LeavesFiles status.Done o1 o2 → IsAreaOf choice area o1 → id ≡ choice.id
+    → before.scene ≡ started area.block choice.sizes.memory area.image before.scene.drive.kept.durable
+    → length before.scene.drive.kept.durable ≡ area.sectors
+    → All (λ sector. length sector ≡ 512) before.scene.drive.kept.durable
+    → IfTold (o2.told Disk) (λ disk. before.scene.drive.kept.durable ≡ sectors_in area.sectors disk)
+    → BeginsOver (o2.told Image) area id before
     → IsStarted choice area.image o2 before
-started_over choice area o1 o2 before left is began sectors disk = record {
-  began = subst (λ block. before ≡ started block choice.sizes.memory area.image before.drive.kept.durable)
-      is.block began;
+started_over choice area id o1 o2 before left is named began many sectors disk stands = record {
+  began = subst (λ block. before.scene ≡ started block choice.sizes.memory area.image
+      before.scene.drive.kept.durable) is.block began;
   sectors = sectors;
   disk = IfTold-both (o2.told Disk) _ _ _
       (λ bytes long made. made ∙ ap (λ n. sectors_in n bytes) (count bytes long))
       (IfTold-same _ (sym (left Disk read_disk)) is.disk) disk;
   image_length = IfTold-same _ (sym (left Image read_image)) is.image;
+  begins = IfTold-weaker (o2.told Image) _ _ (λ bytes begins some. deploys bytes (begins some)) stands.stands;
 }
   where
+    deploys : (bytes : List ℕ) → BeginsAsPlain (record { area = area; id = id; image = bytes }) before
+        → BeginsAsPlain (deployment_of choice area.image (length before.scene.drive.kept.durable) bytes) before
+    deploys bytes begins =
+        subst (λ (block : ℕ). BeginsAsPlain (record {
+          area = record { image = area.image; sectors = length before.scene.drive.kept.durable; block = block };
+          id = choice.id;
+          image = bytes;
+        }) before) is.block
+        (subst (λ (n : ℕ). BeginsAsPlain (record {
+          area = record { image = area.image; sectors = n; block = area.block };
+          id = choice.id;
+          image = bytes;
+        }) before) (sym many)
+        (subst (λ (n : ℕ). BeginsAsPlain (record { area = area; id = n; image = bytes }) before) named begins))
+
     count : (bytes : List ℕ) → length bytes ≡ 512 * area.sectors → area.sectors ≡ length bytes / 512
     count bytes long = omega (long, arith)
 
@@ -143,83 +173,104 @@ out_sectors out sectors whole written =
     rw (count, written) (sectors_in-concat sectors whole)
 
 -- what was run from the world that was started over the disk
-module _ (choice : Choice) (image : ℕ) (o1 o2 o3 : Outside) (before after : Scene) (entries : List Entry) (count : ℕ)
-    (left : LeavesFiles status.Done o1 o2) (same : SameBytes o2 o3) (was : IsStarted choice image o2 before)
-    (run : IsSceneRun (o3.told Image) before entries after count) where
+module _ (choice : Choice) (image : ℕ) (o1 o2 o3 : Outside) (before after : WorldState) (entries : List Entry)
+    (count : ℕ) (left : LeavesFiles status.Done o1 o2) (same : SameBytes o2 o3) (was : IsStarted choice image o2 before)
+    (run : IsSceneRun (o3.told Image) before.scene entries after.scene count)
+    (guests : GuestRuns (o3.told Image) before entries after) where
   run_since : IsSceneRun (o1.told Image)
-      (started choice.sizes.block choice.sizes.memory image before.drive.kept.durable) entries after count
+      (started choice.sizes.block choice.sizes.memory image before.scene.drive.kept.durable) entries after.scene count
   run_since =
-      subst (λ (start : Scene). IsSceneRun (o1.told Image) start entries after count) was.began
-      (subst (λ told. IsSceneRun told before entries after count) (same.told Image ∙ left Image read_image) run)
+      subst (λ (start : Scene). IsSceneRun (o1.told Image) start entries after.scene count) was.began
+      (subst (λ told. IsSceneRun told before.scene entries after.scene count) (same.told Image ∙ left Image read_image)
+      run)
 
   -- without an image there is no monitor, and the plain drive that began with the sectors has the physical one's run
-  plain_since : image ≡ 0 → HasPlainRun (plain_over choice.sizes.memory before.drive.kept.durable)
-      (drive_over choice.sizes.memory before.drive.kept.durable) entries after.drive
+  plain_since : image ≡ 0 → HasPlainRun (plain_over choice.sizes.memory before.scene.drive.kept.durable)
+      (drive_over choice.sizes.memory before.scene.drive.kept.durable) entries after.scene.drive
   plain_since empty =
-      let sectors = before.drive.kept.durable in
+      let sectors = before.scene.drive.kept.durable in
       let memory = choice.sizes.memory in
       let start = started choice.sizes.block memory image sectors in
-      drives_run (plain_over memory sectors) (drive_over memory sectors) after.drive entries
+      drives_run (plain_over memory sectors) (drive_over memory sectors) after.scene.drive entries
       (fresh_stands sectors 64 (length sectors) (replicate memory 0))
-      (drive_alone (o1.told Image) start after entries count run_since (ap (watched_over choice.sizes.block) empty))
+      (drive_alone (o1.told Image) start after.scene entries count run_since
+      (ap (watched_over choice.sizes.block) empty))
+
+  -- with one the guest of its deployment has its run
+  guest_since : IfTold (o1.told Image) (λ bytes. 0 < image
+      → HasGuestRun (deployment_of choice image (length before.scene.drive.kept.durable) bytes)
+      (started choice.sizes.block choice.sizes.memory image before.scene.drive.kept.durable) entries after.scene)
+  guest_since =
+      let deploys = deployment_of choice image (length before.scene.drive.kept.durable) in
+      IfTold-weaker (o1.told Image) _ _
+      (λ bytes has some. subst (λ (start : Scene). HasGuestRun (deploys bytes) start entries after.scene) was.began
+      (has some))
+      (guest_has (o1.told Image) image deploys (λ bytes. refl) before after entries
+      (IfTold-same _ (left Image read_image) was.begins)
+      (subst (λ told. GuestRuns told before entries after) (same.told Image ∙ left Image read_image) guests))
 
   abbrev was_run : WasRun choice o1
   was_run = record {
-    sectors = before.drive.kept.durable;
+    sectors = before.scene.drive.kept.durable;
     image = image;
     entries = entries;
     read = IfTold-same _ (left Disk read_disk) was.disk;
     image_length = IfTold-same _ (left Image read_image) was.image_length;
-    end = after;
+    end = after.scene;
     count = count;
     run = run_since;
     plain = plain_since;
+    guest = guest_since;
   }
 
-  image_began : before.image ≡ image
+  image_began : before.scene.image ≡ image
   image_began = ap (λ (scene : Scene). scene.image) was.began
 
 -- all steps of a run from the moment at which image and disk are known
-pub done : (o1 o2 o3 o4 o5 : Outside) (before after : Scene) (choice : Choice) (image : ℕ)
+pub done : (o1 o2 o3 o4 o5 : Outside) (before after : WorldState) (choice : Choice) (image : ℕ)
     → LeavesFiles status.Done o1 o2 → SameBytes o2 o3 → KeepsFiles o3 o4 → KeepsFilesBut Out o4 o5
     → o3.looked ≡ o1.looked → KeepsLooked o4 o5
     → IsStarted choice image o2 before → IsReported o3 o4 before after
-    → IfTold (o5.told Out) (λ out. out ≡ concat after.drive.kept.durable)
+    → IfTold (o5.told Out) (λ out. out ≡ concat after.scene.drive.kept.durable)
     → DoneRun choice o1 o5
 done o1 o2 o3 o4 o5 before after choice image left loaded played written unlooked kept was told out =
-    let sectors = before.drive.kept.durable in
+    let sectors = before.scene.drive.kept.durable in
+    let now = after.scene in
     let block = choice.sizes.block in
     let memory = choice.sizes.memory in
-    let run = run_since choice image o1 o2 o3 before after told.entries told.count left loaded was told.run in
-    let whole = scene_whole (o1.told Image) block memory image sectors told.entries after told.count was.sectors run in
-    let many = scene_length (o1.told Image) (started block memory image sectors) after told.entries told.count run in
-    let plain = plain_since choice image o1 o2 o3 before after told.entries told.count left loaded was told.run in
+    let run = run_since choice image o1 o2 o3 before after told.entries told.count left loaded was told.run
+    told.guests in
+    let whole = scene_whole (o1.told Image) block memory image sectors told.entries now told.count was.sectors run in
+    let many = scene_length (o1.told Image) (started block memory image sectors) now told.entries told.count run in
+    let plain = plain_since choice image o1 o2 o3 before after told.entries told.count left loaded was told.run
+    told.guests in
     record {
-      was = was_run choice image o1 o2 o3 before after told.entries told.count left loaded was told.run;
+      was = was_run choice image o1 o2 o3 before after told.entries told.count left loaded was told.run told.guests;
       schedule = IfTold-same _ (loaded.told Schedule ∙ left Schedule read_schedule)
           (subst (λ n. IfTold (o3.told Schedule) (λ text. IsTaken n text (events_of told.entries)))
-          (image_began choice image o1 o2 o3 before after told.entries told.count left loaded was told.run)
+          (image_began choice image o1 o2 o3 before after told.entries told.count left loaded was told.run told.guests)
           told.schedule);
       report = IfTold-same _ (sym (written Report (λ e. cc))) told.report;
-      out = IfTold-weaker (o5.told Out) _ _ (λ bytes e. out_sectors bytes after.drive.kept.durable whole e) out;
+      out = IfTold-weaker (o5.told Out) _ _ (λ bytes e. out_sectors bytes now.drive.kept.durable whole e) out;
       whole = IfTold-weaker (o5.told Out) _ _
-          (λ bytes e. ap length e ∙ length-sectors after.drive.kept.durable whole ∙ ap (λ n. 512 * n) many) out;
-      outcome = λ empty. durable_are_outcome after.drive (plain empty).plain (plain empty).stands;
+          (λ bytes e. ap length e ∙ length-sectors now.drive.kept.durable whole ∙ ap (λ n. 512 * n) many) out;
+      outcome = λ empty. durable_are_outcome now.drive (plain empty).plain (plain empty).stands;
       looked = looks_since told.count o1 o3 o5 unlooked (looks_on told.count o3 o4 o5 kept told.looked);
-      unnamed = λ s unnamed. unnamed_stays (o1.told Image) block memory image sectors told.entries after told.count s
+      unnamed = λ s unnamed. unnamed_stays (o1.told Image) block memory image sectors told.entries now told.count s
           was.sectors run unnamed;
     }
 
 -- the same up to a line that is refused
-pub bad_line : (o1 o2 o3 o4 : Outside) (before after : Scene) (choice : Choice) (image number : ℕ) (kind : LineFault)
+pub bad_line : (o1 o2 o3 o4 : Outside) (before after : WorldState) (choice : Choice) (image number : ℕ)
+    (kind : LineFault)
     → LeavesFiles status.Done o1 o2 → IsOpened o2 → SameBytes o2 o3 → KeepsFiles o3 o4 → o3.looked ≡ o1.looked
     → IsStarted choice image o2 before → IsStopped o3 o4 before after number kind
     → BadLineRun choice o1 o4 number kind
 bad_line o1 o2 o3 o4 before after choice image number kind left opened loaded played unlooked was told = record {
-  was = was_run choice image o1 o2 o3 before after told.entries told.count left loaded was told.run;
+  was = was_run choice image o1 o2 o3 before after told.entries told.count left loaded was told.run told.guests;
   schedule = IfTold-same _ (loaded.told Schedule ∙ left Schedule read_schedule)
       (subst (λ n. IfTold (o3.told Schedule) (λ text. IsRefused n text (events_of told.entries) number kind))
-      (image_began choice image o1 o2 o3 before after told.entries told.count left loaded was told.run)
+      (image_began choice image o1 o2 o3 before after told.entries told.count left loaded was told.run told.guests)
       told.schedule);
   report = told.report;
   out = IfTold-same _ (sym (played Out (λ e. cc) ∙ loaded.told Out)) opened.out;
@@ -240,6 +291,7 @@ was_run_from choice o0 o1 kept was = record {
       (started choice.sizes.block choice.sizes.memory was.image was.sectors) was.entries was.end was.count)
       (kept Image) was.run;
   plain = was.plain;
+  guest = IfTold-same _ (kept Image) was.guest;
 }
 
 pub done_from : (choice : Choice) (o0 o1 o5 : Outside) → KeepsAllFiles o0 o1 → KeepsLooked o0 o1 → DoneRun choice o1 o5

@@ -1,5 +1,6 @@
 -- What the clauses of `bmcast` cite: start with Run, then Status.
 pub mod Run
+pub mod Guest
 pub mod Status
 pub mod StatusLine
 pub mod Chosen
@@ -13,4 +14,5 @@ pub mod Stages
 pub mod Stop
 pub mod Kept
 pub mod Streams
+pub mod GuestRuns
 pub mod Played

@@ -1,5 +1,5 @@
 -- A whole run, and what is promised of it.
-use Rattle.std.specs.Prelude.{ℕ, ◌≡◌, ◌*◌, ◌/◌, false, List, [], length, replicate, slice_index_or}
+use Rattle.std.specs.Prelude.{ℕ, ◌≡◌, ◌<◌, ◌*◌, ◌/◌, false, List, [], length, replicate, slice_index_or}
 use Rattle.bm_host.specs.declared.Role.TheVariants.{Image, Disk, Schedule, Report, Out}
 use Rattle.ata_taskfile.specs.declared.registers.TheConstants.{SECTOR_BYTES}
 use Rattle.bm_host.specs.Outside.{Outside, IfTold}
@@ -12,7 +12,9 @@ use Rattle.plain_run.specs.Entry.{Entry, events_of, history_text, report_text}
 use Rattle.plain_run.specs.Run.{HasPlainRun}
 use Rattle.plain_run.specs.Written.{is_named}
 use Rattle.streaming.specs.World.{Scene, IsSceneRun, drive_over, started}
+use Rattle.world.specs.Coupled.{Deployment}
 use Rattle.bmcast.specs.Chosen.{Chosen}
+use Rattle.bmcast.specs.Guest.{HasGuestRun}
 use Rattle.bmcast.specs.Known.{IsRefused, IsTaken}
 use Rattle.bmcast.specs.Lengths.{HasLength}
 
@@ -25,6 +27,14 @@ abbrev pub plain_over : ℕ → List (List ℕ) → Plain
 plain_over memory sectors =
     drive_at_power_on sectors (length sectors) (replicate memory 0)
 
+-- what the words deploy of an image of so many sectors and these bytes, on a disk of so many sectors
+abbrev pub deployment_of : Choice → ℕ → ℕ → List ℕ → Deployment
+deployment_of choice image sectors bytes = record {
+  area = record { image = image; sectors = sectors; block = choice.sizes.block };
+  id = choice.id;
+  image = bytes;
+}
+
 -- what was run, over image and disk of this outside:
 pub record WasRun (choice : Choice) (old : Outside) : Type 0 where
   -- there are the disk's sectors, how many sectors the image has, and a history of the events that were done
@@ -33,8 +43,8 @@ pub record WasRun (choice : Choice) (old : Outside) : Type 0 where
   pub entries : List Entry
   pub read : IfTold (old.told Disk) (λ disk. sectors ≡ sectors_of_disk disk)
   pub image_length : HasLength Image old (SECTOR_BYTES * image)
-  -- at its end there are a drive, a network and a monitor, and so many sectors of the image went into replies, each
-  -- counted once a reply
+  -- at its end there are a drive, a network and, with an image, a monitor, and so many sectors of the image went into
+  -- replies, each counted once a reply
   pub end : Scene
   pub count : ℕ
   -- the entries lead there from power-on, event by event. With a monitor each is one of an honest trace: the drive
@@ -48,6 +58,12 @@ pub record WasRun (choice : Choice) (old : Outside) : Type 0 where
   -- durable sectors; the physical drive stands for the plain one at the end
   pub plain : image ≡ 0 → HasPlainRun (plain_over choice.sizes.memory sectors)
       (drive_over choice.sizes.memory sectors) entries end.drive
+  -- with an image that is told it is, up to the first closing mark, that of a plain drive that began with what the
+  -- guest finds on the disk: the stored blocks' sectors and those behind the image are the disk's, all others the
+  -- image's
+  pub guest : IfTold (old.told Image) (λ bytes. 0 < image →
+      HasGuestRun (deployment_of choice image (length sectors) bytes)
+      (started choice.sizes.block choice.sizes.memory image sectors) entries end)
 
 -- the run is done, from the outside before it to that after it:
 pub record DoneRun (choice : Choice) (old new : Outside) : Type 0 where

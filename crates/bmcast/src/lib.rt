@@ -80,7 +80,9 @@ impl Status {
 /// line on Console says it.
 ///
 /// At Done the schedule was read to its end, and the report is an honest trace of a drive that began with the disk, of
-/// its monitor and of the network, or without an image that of a plain drive; out holds what a power cut would leave.
+/// its monitor and of the network. The guest's answers in it are those of a plain drive that began with the image, up
+/// to a command that the monitor refuses or a forged reply that it takes, or without an image with the disk; out holds
+/// what a power cut would leave.
 /// The first refusal is the answer: the words (Usage), the files (ReadFault), their lengths and the header on the disk
 /// (Unsuitable), the schedule's first line that isn't taken (BadLine). A fault comes only where that role's count of
 /// faults rose.

@@ -6,7 +6,9 @@ ghost use Rattle.bm_host.specs.declared.Role.TheVariants.{Image, Schedule};
 ghost use Rattle.schedule_text.specs.Line.{Says, IsInRange};
 ghost use Rattle.schedule_text.specs.BadLine.{LineFails};
 ghost use Rattle.plain_run.specs.Entry.{entry_of, items_text};
-ghost use Rattle.streaming.specs.World.{Scene, WorldEvent};
+ghost use Rattle.streaming.specs.World.{WorldEvent};
+ghost use Rattle.world.specs.Coupled.{KeepsPlain};
+ghost use Rattle.world.specs.WorldState.{WorldState};
 ghost use Rattle.block_writes.specs.Kept.{KeepsLooked};
 ghost use Rattle.bmcast.specs.Stop.{IsCounted, OnBadLine, UnlessFault};
 ghost use Rattle.bmcast.specs.Stages.{StopsAt, doing_event, moving_lines, playing};
@@ -45,11 +47,11 @@ pub(crate) fn play<H: Host>(
     ensures files { KeepsFiles (H.outside host.old) (H.outside host.new) }
     ensures over { OnOk result (IsOver image (H.outside host.new) world.new.scene) }
     ensures ended { IfOk result (λ number. (start : Begun)
-        → HasPlayed start streams.old (H.outside host.old) world.old.scene 1
-        → HasEnded start streams.new (H.outside host.new) world.new.scene number) }
+        → HasPlayed start streams.old (H.outside host.old) world.old 1
+        → HasEnded start streams.new (H.outside host.new) world.new number) }
     ensures bad { OnBadLine result (λ bad kind. (start : Begun)
-        → HasPlayed start streams.old (H.outside host.old) world.old.scene 1
-        → HasFailed start streams.new (H.outside host.new) world.new.scene bad kind) }
+        → HasPlayed start streams.old (H.outside host.old) world.old 1
+        → HasFailed start streams.new (H.outside host.new) world.new bad kind) }
 {
     let mut line = ArrayVec::new();
     let mut event = Event::Remark;
@@ -86,13 +88,13 @@ fn play_line<H: Host>(
     ensures files { KeepsFiles (H.outside host.old) (H.outside host.new) }
     ensures over { OnOk result (IsOver image (H.outside host.new) world.new.scene) }
     ensures progress { IfOk result (λ progress. (start : Begun)
-        → HasPlayed start streams.old (H.outside host.old) world.old.scene number
-        → Progresses progress start streams.new (H.outside host.new) world.new.scene
+        → HasPlayed start streams.old (H.outside host.old) world.old number
+        → Progresses progress start streams.new (H.outside host.new) world.new
         number) }
     ensures more { IfOk result (λ progress. progress ≡ Progress.More → number ≢ LAST_LINE) }
     ensures bad { OnBadLine result (λ bad kind. (start : Begun)
-        → HasPlayed start streams.old (H.outside host.old) world.old.scene number
-        → HasFailed start streams.new (H.outside host.new) world.new.scene bad kind) }
+        → HasPlayed start streams.old (H.outside host.old) world.old number
+        → HasFailed start streams.new (H.outside host.new) world.new bad kind) }
 {
     match take_line(host, streams, line, number) {
         Ok(()) => {}
@@ -120,10 +122,10 @@ fn take_line<H: Host>(
     ensures looked { KeepsLooked (H.outside host.old) (H.outside host.new) }
     ensures counts { IsCounted result (H.outside host.old) (H.outside host.new) }
     ensures files { KeepsFiles (H.outside host.old) (H.outside host.new) }
-    ensures taken { OnOk result ((start : Begun) (now : Scene)
+    ensures taken { OnOk result ((start : Begun) (now : WorldState)
         → HasPlayed start streams.old (H.outside host.old) now number
         → HasTaken start streams.new (H.outside host.new) now line.new.items number) }
-    ensures bad { OnBadLine result (λ bad kind. (start : Begun) (now : Scene)
+    ensures bad { OnBadLine result (λ bad kind. (start : Begun) (now : WorldState)
         → HasPlayed start streams.old (H.outside host.old) now number
         → HasFailed start streams.new (H.outside host.new) now bad kind) }
 {
@@ -156,14 +158,14 @@ fn do_line<H: Host>(
     ensures files { KeepsFiles (H.outside host.old) (H.outside host.new) }
     ensures over { OnOk result (IsOver image (H.outside host.new) world.new.scene) }
     ensures done { IfOk result (λ progress. (start : Begun)
-        → HasTaken start streams.old (H.outside host.old) world.old.scene
+        → HasTaken start streams.old (H.outside host.old) world.old
         line.now.items number
-        → HasDone progress start streams.new (H.outside host.new) world.new.scene number) }
+        → HasDone progress start streams.new (H.outside host.new) world.new number) }
     ensures more { IfOk result (λ progress. progress ≡ Progress.More → number ≢ LAST_LINE) }
     ensures bad { OnBadLine result (λ bad kind. (start : Begun)
-        → HasTaken start streams.old (H.outside host.old) world.old.scene
+        → HasTaken start streams.old (H.outside host.old) world.old
         line.now.items number
-        → HasFailed start streams.new (H.outside host.new) world.new.scene bad kind) }
+        → HasFailed start streams.new (H.outside host.new) world.new bad kind) }
 {
     match read_event(line.as_slice(), event) {
         Ok(()) => {}
@@ -218,6 +220,9 @@ fn do_event<H: Host>(
     ensures event { OnOk result (WorldEvent (H.outside host.old) (H.outside host.new)
         world.old.scene (entry_of event.now out.new.items.items out.new.bytes.items)
         world.new.scene) }
+    ensures kept { OnOk result (IfTold ((H.outside host.old).told Image) (λ bytes.
+        KeepsPlain bytes world.old
+        (entry_of event.now out.new.items.items out.new.bytes.items) world.new)) }
     ensures reported { OnOk result
         (Reports streams.old streams.new (H.outside host.old) (H.outside host.new)
         (items_text number out.new.items.items out.new.bytes.items)) }

@@ -86,6 +86,7 @@ fn run_events<H: Host>(
     requires setup { IsSetup setup.now }
     requires memory { options.now.memory ≤ MOST_BYTES }
     requires area { IsAreaOf (seen options.now) setup.now.area (H.outside host.old) }
+    requires id { setup.now.id ≡ (seen options.now).id }
     ensures counts { IsCounted result (H.outside host.old) (H.outside host.new) }
     ensures late { IfErr result IsLate }
     ensures looked { BeforeEvents (status_after result)
@@ -164,9 +165,9 @@ fn report_run<H: Host>(host: &mut H, world: &mut World, image: u64) -> Result<()
     ensures stops { IfErr result (StopsAt playing) }
     ensures looked { image ≡ 0 → KeepsLooked (H.outside host.old) (H.outside host.new) }
     ensures reported { OnOk result (IsReported (H.outside host.old) (H.outside host.new)
-        world.old.scene world.new.scene) }
+        world.old world.new) }
     ensures bad { OnBadLine result (IsStopped (H.outside host.old) (H.outside host.new)
-        world.old.scene world.new.scene) }
+        world.old world.new) }
 {
     let mut streams = Streams::new();
     let number = match play_to_end(host, &mut streams, world, image) {
@@ -191,11 +192,11 @@ fn play_to_end<H: Host>(
     ensures stops { IfErr result (StopsAt playing) }
     ensures looked { image ≡ 0 → KeepsLooked (H.outside host.old) (H.outside host.new) }
     ensures ended { IfOk result (λ number. (start : Begun)
-        → HasPlayed start streams.old (H.outside host.old) world.old.scene 1
-        → HasEnded start streams.new (H.outside host.new) world.new.scene number) }
+        → HasPlayed start streams.old (H.outside host.old) world.old 1
+        → HasEnded start streams.new (H.outside host.new) world.new number) }
     ensures bad { OnBadLine result (λ bad kind. (start : Begun)
-        → HasPlayed start streams.old (H.outside host.old) world.old.scene 1
-        → HasFailed start streams.new (H.outside host.new) world.new.scene bad kind) }
+        → HasPlayed start streams.old (H.outside host.old) world.old 1
+        → HasFailed start streams.new (H.outside host.new) world.new bad kind) }
     ensures written { OnBadLine result (λ bad kind. streams.new.pending.items ≡ []) }
 {
     match play(host, streams, world, image) {

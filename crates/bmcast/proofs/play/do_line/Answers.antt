@@ -29,7 +29,7 @@ returns-clause-done g c = λ start was.
     (g.H.Host.outside c.do_event.new.host)
     _ _ c.args.line.now.items c.args.number c.args.image _ _ _ says c.requires.over.image
     (sym c.knows.ensures ∙ c.if-not-knows.false)
-    c.in_ok-do_event.ensures.files c.in_ok-do_event.ensures.event
+    c.in_ok-do_event.ensures.files c.in_ok-do_event.ensures.event c.in_ok-do_event.ensures.kept
     c.in_ok-do_event.ensures.reported was
     c.in-Ok-progress_after.progress c.requires.number c.in-Ok-progress_after.ensures.leads
 

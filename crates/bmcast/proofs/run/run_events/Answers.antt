@@ -11,11 +11,12 @@ returns-in-Ok-report_run-clause-done g c = on_ok_weaker c.end_run.result
     (λ out.
     done (g.H.Host.outside c.args.host.now) (g.H.Host.outside c.begin_files.new.host)
     (g.H.Host.outside c.start.new.host) (g.H.Host.outside c.report_run.new.host) (g.H.Host.outside c.end_run.new.host)
-    c.in-Ok-start.world.scene c.report_run.new.world.scene (seen c.args.options.now) c.args.setup.now.area.image
+    c.in-Ok-start.world c.report_run.new.world (seen c.args.options.now) c.args.setup.now.area.image
     c.in-Ok.ensures.files c.in-Ok-start.ensures.bytes c.in-Ok-report_run.ensures.files c.end_run.ensures.files
     (c.in-Ok-start.ensures.looked ∙ c.in-Ok.ensures.looked) c.end_run.ensures.looked
-    (started_over _ c.args.setup.now.area _ _ c.in-Ok-start.world.scene c.in-Ok.ensures.files c.requires.area
-    c.in-Ok-start.ensures.began c.in-Ok-start.ensures.sectors c.in-Ok-start.ensures.disk)
+    (started_over _ c.args.setup.now.area c.args.setup.now.id _ _ c.in-Ok-start.world c.in-Ok.ensures.files
+    c.requires.area c.requires.id c.in-Ok-start.ensures.began c.in-Ok-start.ensures.count
+    c.in-Ok-start.ensures.sectors c.in-Ok-start.ensures.disk c.in-Ok-start.ensures.stands)
     c.in-Ok-report_run.ensures.reported out)
     c.end_run.ensures.out
 
@@ -25,12 +26,13 @@ returns-in-Err-report_run-clause-bad g c =
     (λ number kind stopped.
     bad_line (g.H.Host.outside c.args.host.now) (g.H.Host.outside c.begin_files.new.host)
     (g.H.Host.outside c.start.new.host) (g.H.Host.outside c.report_run.new.host)
-    c.in-Ok-start.world.scene c.report_run.new.world.scene (seen c.args.options.now) c.args.setup.now.area.image
+    c.in-Ok-start.world c.report_run.new.world (seen c.args.options.now) c.args.setup.now.area.image
     number kind
     c.in-Ok.ensures.files c.in-Ok.ensures.ready c.in-Ok-start.ensures.bytes c.in-Err-report_run.ensures.files
     (c.in-Ok-start.ensures.looked ∙ c.in-Ok.ensures.looked)
-    (started_over _ c.args.setup.now.area _ _ c.in-Ok-start.world.scene c.in-Ok.ensures.files c.requires.area
-    c.in-Ok-start.ensures.began c.in-Ok-start.ensures.sectors c.in-Ok-start.ensures.disk)
+    (started_over _ c.args.setup.now.area c.args.setup.now.id _ _ c.in-Ok-start.world c.in-Ok.ensures.files
+    c.requires.area c.requires.id c.in-Ok-start.ensures.began c.in-Ok-start.ensures.count
+    c.in-Ok-start.ensures.sectors c.in-Ok-start.ensures.disk c.in-Ok-start.ensures.stands)
     stopped)
     c.in-Err-report_run.ensures.bad
 
