@@ -116,6 +116,61 @@ fn check_deployed(
     Ok(())
 }
 
+// How many helpful turns the schedule of an opening has since its start, or since the last step that failed: those
+// before which the drive was told to make a good step since the last helpful one. No command waits for a tag yet.
+fn helpful_turns(schedule: &[u8]) -> u32 {
+    let mut stepped = false;
+    let mut turns = 0u32;
+    for line in schedule.split(|byte| *byte == b'\n') {
+        if line == b"d ok".as_slice() {
+            stepped = true;
+        } else if line == b"d bad".as_slice() {
+            turns = 0;
+        } else if line == b"t".as_slice() && stepped {
+            stepped = false;
+            turns = turns.saturating_add(1);
+        }
+    }
+    turns
+}
+
+// The opening of a disk without a header has 8 helpful turns; over one sector of bitmap 80 are the bound. A turn at a
+// drive that is at work, or a second one behind a step, isn't helpful. Where a step fails the count begins anew, and so
+// does the command.
+#[test]
+fn helpful_turns_until_the_monitor_is_ready(rt: HostRuntime) -> Result<(), Fail> {
+    // The schedule before its end, the report, and the helpful turns, counted by hand.
+    let cases = [
+        (OPEN, [OPENED, Text(b"end 22\n")], 8),
+        (
+            Text(
+                b"d ok\nt\nt\nd ok\nt\nt\nd ok\nt\nt\nd ok\nt\nt\nd ok\nt\nt\nd ok\nt\nt\nd ok\nt\nt\nd ok\nt\nt\n",
+            ),
+            [
+                Text(b"2 c 20 13 1\n6 c 30 14 1\n12 c e7 0 0\n15 c 30 13 1\n21 c e7 0 0\n"),
+                Text(b"23 m ready\n24 p go 1\nend 25\n"),
+            ],
+            8,
+        ),
+        (
+            Text(
+                b"d ok\nt\nd bad\nt\nt\nd ok\nt\nt\nd ok\nt\nd ok\nt\nt\nd ok\nt\nt\nd ok\nt\nd ok\nt\nt\nd ok\nt\nt\n",
+            ),
+            [
+                Text(b"2 c 20 13 1\n5 c 20 13 1\n8 c 30 14 1\n13 c e7 0 0\n16 c 30 13 1\n"),
+                Text(b"21 c e7 0 0\n23 m ready\n24 p go 1\nend 25\n"),
+            ],
+            7,
+        ),
+    ];
+    for (schedule, report, helpful) in cases {
+        let text = written(rt.alloc(), &[schedule])?;
+        assert_eq!(rt; helpful_turns(text.as_slice()), helpful);
+        check_deployed(&rt, rt.alloc(), &[schedule, Text(b"end\n")], &report)?;
+    }
+    Ok(())
+}
+
 // The four replies come in the order opposite to that of their requests. The block is then held, and the dummy read of
 // sector 15 raises the guest's interrupt.
 #[test]
